@@ -1,0 +1,5 @@
+pub mod Paths
+pub mod Orders
+pub mod Soundness
+pub mod LinkLists
+pub mod Leaving

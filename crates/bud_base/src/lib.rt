@@ -1,0 +1,16 @@
+//! What every crate speaks of: the ids, texts, and the raw problem with its paths.
+#![tactic(auto)]
+
+mod checks;
+mod ids;
+mod links;
+mod lists;
+mod problems;
+mod texts;
+
+pub use checks::ProblemFault;
+pub use ids::{ArcId, ClassId, ItemId, NodeId, PinId};
+pub use links::Links;
+pub use lists::Listed;
+pub use problems::{End, Ends, Item, Items, Problem, Start, Starts};
+pub use texts::{Text, TextFault};
