@@ -9,15 +9,25 @@ use Rattle.plan_cert.specs.declared.certs.CertNode.{CertNode}
 use Rattle.plan_cert.specs.declared.certs.CertItem.{CertItem}
 use Rattle.plan_cert.specs.declared.certs.CertFlow.{CertFlow}
 
+-- lines without names, whose numbers are 0
+abbrev pub no_node : CertNode
+no_node = record { name = []; class = record { 0 = 0 }; arrival = pos 0 }
+
+abbrev pub no_item : CertItem
+no_item = record { from = []; to = []; class = record { 0 = 0 }; budget = pos 0; flow = pos 0 }
+
+abbrev pub no_flow : CertFlow
+no_flow = record { name = []; class = record { 0 = 0 }; flow = pos 0 }
+
 -- the line of a number below the list's length
 abbrev pub node_line : List CertNode → ℕ → CertNode
-node_line lines k = slice_index_or lines k (record { name = []; class = record { 0 = 0 }; arrival = pos 0 })
+node_line lines k = slice_index_or lines k no_node
 
 abbrev pub item_line : List CertItem → ℕ → CertItem
-item_line lines i = slice_index_or lines i (record { from = []; to = []; class = record { 0 = 0 }; budget = pos 0; flow = pos 0 })
+item_line lines i = slice_index_or lines i no_item
 
 abbrev pub flow_line : List CertFlow → ℕ → CertFlow
-flow_line lines k = slice_index_or lines k (record { name = []; class = record { 0 = 0 }; flow = pos 0 })
+flow_line lines k = slice_index_or lines k no_flow
 
 -- for a problem with numbered nodes a name is the node's number in decimal, and the class is 0
 pub record NamesNode (line : CertNode) (node : ℕ) : Type 0 where

@@ -5,6 +5,8 @@ mod answers;
 mod certs;
 mod line_checks;
 mod names;
+mod numbers;
+mod timing_checks;
 
 pub use answers::{CertAnswer, CertFault, CertPlace};
 pub use certs::{Cert, CertClass, CertClasses, CertFlow, CertFlows, CertItem, CertItems, CertNode, CertNodes, Numbers};
