@@ -3,6 +3,7 @@
 
 mod answers;
 mod certs;
+mod flow_checks;
 mod line_checks;
 mod names;
 mod numbers;
