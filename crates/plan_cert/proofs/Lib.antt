@@ -1,2 +1,4 @@
 pub mod Decimals
 pub mod LineNumbers
+pub mod NodeSumLemmas
+pub mod FailureLemmas

@@ -2,3 +2,4 @@ pub mod Lines
 pub mod Failures
 pub mod Certs
 pub mod Raw
+pub mod NodeSums

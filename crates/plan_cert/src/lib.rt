@@ -6,6 +6,7 @@ mod certs;
 mod flow_checks;
 mod line_checks;
 mod names;
+mod node_sums;
 mod numbers;
 mod timing_checks;
 
