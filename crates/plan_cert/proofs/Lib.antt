@@ -2,3 +2,4 @@ pub mod Decimals
 pub mod LineNumbers
 pub mod NodeSumLemmas
 pub mod FailureLemmas
+pub mod TotalLemmas

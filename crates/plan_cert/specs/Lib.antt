@@ -3,3 +3,4 @@ pub mod Failures
 pub mod Certs
 pub mod Raw
 pub mod NodeSums
+pub mod Totals

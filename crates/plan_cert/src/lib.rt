@@ -9,6 +9,7 @@ mod names;
 mod node_sums;
 mod numbers;
 mod timing_checks;
+mod weights;
 
 pub use answers::{CertAnswer, CertFault, CertPlace};
 pub use certs::{Cert, CertClass, CertClasses, CertFlow, CertFlows, CertItem, CertItems, CertNode, CertNodes, Numbers};
