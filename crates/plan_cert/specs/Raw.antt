@@ -2,7 +2,7 @@
 use Rattle.std.specs.Prelude.{◌≡◌, ◌≢◌, ℕ, ℤ, ◌⊎◌, [], length, min}
 use Rattle.bud_base.specs.declared.problems.Problem.{Problem}
 use Rattle.bud_flow.specs.Sums.{number_at}
-use Rattle.bud_flow.specs.Flows.{Flow, IsNonNegative, IsBalanced, flow_into, flow_out_of, value_of}
+use Rattle.bud_flow.specs.Flows.{IsNonNegative, IsBalanced, flow_into, flow_out_of, value_of}
 use Rattle.bud_flow.specs.Arrivals.{SuitsItem, SuitsStart, SuitsEnd}
 use Rattle.bud_model.specs.Budgets.{IsWithinBounds, AreWithinBounds, SuitBudgets, budget_in, weight_of}
 use Rattle.bud_model.specs.Plans.{IsHolding, flow_of}
@@ -147,3 +147,8 @@ IsRawAnswer p cert (Fault fault) = IsRawFault p cert fault
 abbrev pub OnHolds : CertAnswer → Type 0 → Type 0
 OnHolds (Holds weight) fact = fact
 OnHolds (Fault fault) fact = Unit {0}
+
+-- the fact of the weight where the certificate holds
+abbrev pub IfHolds : CertAnswer → (ℤ → Type 0) → Type 0
+IfHolds (Holds weight) Fact = Fact weight
+IfHolds (Fault fault) Fact = Unit {0}

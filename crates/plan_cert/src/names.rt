@@ -33,7 +33,9 @@ pub fn names_node(line: &CertNode, node: u32) -> bool
 pub fn names_item(line: &CertItem, item: &Item) -> bool
     ensures { IsTrue result ↔ NamesItem line.now item.now }
 {
-    line.class.0 == 0 && is_decimal(line.from.as_slice(), item.from.0) && is_decimal(line.to.as_slice(), item.to.0)
+    line.class.0 == 0
+        && is_decimal(line.from.as_slice(), item.from.0)
+        && is_decimal(line.to.as_slice(), item.to.0)
 }
 
 // Whether the line names this node.

@@ -1,5 +1,4 @@
-use Rattle.std.proofs.Common.{◌*ℤ◌}
-use Rattle.bud_base.specs.Paths.{item_at, start_at, end_at}
+use Rattle.bud_base.specs.Paths.{item_at}
 use Rattle.bud_flow.specs.Sums.{number_at}
 use Rattle.bud_flow.specs.Flows.{item_value}
 use Rattle.plan_cert.specs.Certs.{plan_in}

@@ -1,7 +1,6 @@
 use Rattle.std.proofs.Common.{◌*ℤ◌}
-use Rattle.bud_base.specs.Paths.{item_at, start_at, end_at}
+use Rattle.bud_base.specs.Paths.{start_at}
 use Rattle.bud_flow.specs.Sums.{number_at}
-use Rattle.bud_flow.specs.Flows.{item_value}
 use Rattle.plan_cert.specs.Certs.{plan_in}
 use Rattle.plan_cert.specs.Totals.{IsTotal}
 use Rattle.plan_cert.proofs.weights.starts_value.Given as goal
