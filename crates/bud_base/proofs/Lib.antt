@@ -1,2 +1,9 @@
 pub mod LeavingLemmas
 pub mod LinkSteps
+pub mod Trials
+pub mod Places
+pub mod Ways
+pub mod Joining
+pub mod Explorations
+pub mod Rings
+pub mod Arrangements

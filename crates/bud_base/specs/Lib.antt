@@ -1,5 +1,7 @@
 pub mod Paths
 pub mod Orders
+pub mod OrderLists
+pub mod Searches
 pub mod Soundness
 pub mod LinkLists
 pub mod Leaving
