@@ -7,3 +7,5 @@ pub mod Joining
 pub mod Explorations
 pub mod Rings
 pub mod Arrangements
+pub mod OrderLemmas
+pub mod Sums

@@ -3,6 +3,7 @@
 
 mod checks;
 mod ids;
+pub mod laws;
 mod links;
 mod lists;
 mod orders;
