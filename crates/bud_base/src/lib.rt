@@ -3,8 +3,10 @@
 
 mod checks;
 mod ids;
+pub mod laws;
 mod links;
 mod lists;
+mod orders;
 mod problems;
 mod texts;
 
@@ -12,5 +14,6 @@ pub use checks::ProblemFault;
 pub use ids::{ArcId, ClassId, ItemId, NodeId, PinId};
 pub use links::Links;
 pub use lists::Listed;
+pub use orders::NodeOrder;
 pub use problems::{End, Ends, Item, Items, Problem, Start, Starts};
 pub use texts::{Text, TextFault};
