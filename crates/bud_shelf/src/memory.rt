@@ -84,7 +84,8 @@ impl Shelf for MemShelf {
     fn read(&mut self, name: &str, into: &mut Vec<u8>) -> Result<(), ShelfFault>
         ensures unchanged { self.new.stored.files ≡ self.old.stored.files }
         ensures count { self.old.calls.faults ≤ self.new.calls.faults }
-        ensures answer { IsReadAnswer (Some self.old.stored.files) self.old.calls.faults self.new.calls.faults name.now into.new.items result }
+        ensures answer { IsReadAnswer (Some self.old.stored.files) self.old.calls.faults self.new.calls.faults
+            name.now into.new.items result }
 
         // It fails exactly where it was told to, and nothing changes but that it was called.
         ensures fails { (result ≡ Err ShelfFault.Failed) ↔ IsTrue (fails_next self.old.calls) }
@@ -99,7 +100,8 @@ impl Shelf for MemShelf {
 
     fn write(&mut self, name: &str, bytes: &[u8]) -> Result<(), ShelfFault>
         ensures count { self.old.calls.faults ≤ self.new.calls.faults }
-        ensures answer { IsWriteAnswer (Some self.old.stored.files) (Some self.new.stored.files) self.old.calls.faults self.new.calls.faults name.now bytes.now result }
+        ensures answer { IsWriteAnswer (Some self.old.stored.files) (Some self.new.stored.files)
+            self.old.calls.faults self.new.calls.faults name.now bytes.now result }
 
         // It fails exactly where it was told to, and after a refusal nothing changed but that it was called.
         ensures fails { (result ≡ Err ShelfFault.Failed) ↔ IsTrue (fails_next self.old.calls) }
@@ -171,7 +173,8 @@ impl Sink for MemSink {
     /// A call that is to fail takes the first half of the piece, or nothing where there is no memory for it.
     fn put(&mut self, bytes: &[u8]) -> Result<(), SinkFault>
         ensures count { self.old.calls.faults ≤ self.new.calls.faults }
-        ensures answer { IsPutAnswer (Some self.old.taken) (Some self.new.taken) self.old.calls.faults self.new.calls.faults bytes.now result }
+        ensures answer { IsPutAnswer (Some self.old.taken) (Some self.new.taken)
+            self.old.calls.faults self.new.calls.faults bytes.now result }
 
         // It fails exactly where it was told to, and nothing else changes but that it was called.
         ensures fails { (result ≡ Err SinkFault.Failed) ↔ IsTrue (fails_next self.old.calls) }
