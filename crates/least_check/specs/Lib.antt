@@ -1,0 +1,4 @@
+pub mod Arrivals
+pub mod WorstEnds
+pub mod Traces
+pub mod WorstPaths

@@ -1,0 +1,7 @@
+//! The least slack of a budgeting problem at least delays, and a worst path.
+#![tactic(auto)]
+
+mod arrivals;
+mod traces;
+mod worst_ends;
+mod worst_paths;
