@@ -13,7 +13,7 @@ use Rattle.bud_base.specs.declared.ids.NodeId.{NodeId}
 use Rattle.bud_base.specs.declared.ids.ItemId.{ItemId}
 use Rattle.bud_base.specs.declared.problems.Item.{Item}
 use Rattle.bud_base.specs.declared.problems.Problem.{Problem}
-use Rattle.least_check.proofs.FirstLeaving.{leaving_from-some, leaving_from-none}
+use Rattle.bud_base.proofs.LeavingLemmas.{leaving_from-some, leaving_from-none}
 use Rattle.least_check.specs.Arrivals.{arrival_at, later, ArrivesFrom, IsBetween, IsCarried, IsCause, IsSweep, IsSwept, IsStartCause, AreOfStarts}
 use Rattle.least_check.specs.declared.arrivals.Arrival.{Arrival}
 use Rattle.least_check.specs.declared.arrivals.Cause.{Cause}

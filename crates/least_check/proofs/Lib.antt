@@ -1,7 +1,7 @@
-pub mod FirstLeaving
 pub mod ArrivalSteps
 pub mod StartSteps
 pub mod CarrySteps
 pub mod WorstEndSteps
 pub mod TraceSteps
 pub mod Verdicts
+pub mod OrderLemmas

@@ -2,6 +2,9 @@
 #![tactic(auto)]
 
 mod arrivals;
+mod checks;
 mod traces;
 mod worst_ends;
 mod worst_paths;
+
+pub use checks::{Least, LeastCheck};

@@ -18,7 +18,7 @@ loop-number-preserved c =
       | in-Some w ↦
           let is : arrival_at c.args.arrivals.now (end_at c.args.problem.now.ends c.loop-number.number).node.0 ≡ Some w.in-Some.arrival =
           rw c.as_slice-end-items.ensures at w.in-Some.is in
-          let between = IsSwept-between _ _ _ _ c.requires.swept sound.node is in
+          let between = IsSwept-between c.args.problem.now c.args.arrivals.now (end_at c.args.problem.now.ends c.loop-number.number).node.0 w.in-Some.arrival c.requires.swept sound.node is in
           rw (w.worst-is, w.worse.ensures, c.as_slice-end-items.ensures)
           (IsWorstEnd-more c.args.problem.now c.loop-number.number c.args.arrivals.now c.loop-number.worst w.in-Some.arrival _ is (omega (arith, ints, between.0, between.1, sound.time.low, sound.time.high, c.requires.sound.limits.nodes)) refl c.loop-number.invariant)
       | in_default w ↦
