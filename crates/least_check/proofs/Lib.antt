@@ -4,4 +4,3 @@ pub mod CarrySteps
 pub mod WorstEndSteps
 pub mod TraceSteps
 pub mod Verdicts
-pub mod OrderLemmas

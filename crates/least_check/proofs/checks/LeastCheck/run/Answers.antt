@@ -1,4 +1,4 @@
-use Rattle.least_check.proofs.OrderLemmas.{IsCycle-none}
+use Rattle.bud_base.proofs.OrderLemmas.{IsCycle-none}
 use Rattle.least_check.proofs.checks.LeastCheck.run.Goals as goal
 
 pub prove-unreachable-requires : goal.prove-unreachable-requires
