@@ -1,5 +1,5 @@
 -- Arrivals carried on over the items that leave a node.
-use Rattle.std.proofs.Common.{All, [], ◌-◌, ◌≡◌, ◌≢◌, ℕ, ℤ, pos, ◌+◌, ◌*◌, ◌+ℤ◌, ◌<◌, ◌≤◌, ◌≤ℤ◌, List, length, get_or, Option, Some, None, arith, refl, sym, ap, ◌∙◌, inl, inr, subst, IfSome}
+use Rattle.std.proofs.Common.{[], negsuc, ◌-◌, ◌≡◌, ◌≢◌, ℕ, ℤ, pos, ◌+◌, ◌*◌, ◌+ℤ◌, ◌<◌, ◌≤◌, ◌≤ℤ◌, List, length, get_or, Option, Some, None, arith, refl, sym, ap, ◌∙◌, inl, inr, subst, IfSome}
 use Rattle.std.proofs.lemmas.Bool.{cases_eq, cases_lt}
 use Rattle.std.proofs.lemmas.Int.{ints}
 use Rattle.std.proofs.lemmas.Option.{IfSome_then}
@@ -8,7 +8,7 @@ use Rattle.std.specs.Option.{option_map_or}
 use Rattle.bud_base.specs.Paths.{item_at}
 use Rattle.bud_base.specs.Orders.{node_at, IsOrder}
 use Rattle.bud_base.specs.Leaving.{leaving_from}
-use Rattle.bud_base.specs.Soundness.{IsSoundItem}
+use Rattle.bud_base.specs.Soundness.{IsSound, IsSoundItem}
 use Rattle.bud_base.specs.declared.ids.NodeId.{NodeId}
 use Rattle.bud_base.specs.declared.ids.ItemId.{ItemId}
 use Rattle.bud_base.specs.declared.problems.Item.{Item}
@@ -45,16 +45,15 @@ IsCause-further p place reach arrivals n t (OfItem i) is_cause = record {
 }
 
 -- a node is done once every item that leaves it is carried
-pub IsSweep-next : (p : Problem) (order : List NodeId) (place : ℕ) (arrivals : List (Option Arrival)) → IsSweep p order place arrivals
+pub IsSweep-next : (p : Problem) (order : List NodeId) (place : ℕ) (arrivals : List (Option Arrival)) → IsSound p → IsSweep p order place arrivals
     → ((i : ℕ) → i < length p.items → (item_at p.items i).from.0 ≡ node_at order place → IsCarried p arrivals i)
-    → ((i : ℕ) → i < length p.items → (item_at p.items i).from.0 < p.nodes)
     → IsSweep p order (place + 1) arrivals
-IsSweep-next p order place arrivals sweep here within = record {
+IsSweep-next p order place arrivals sound sweep here = record {
   is_order = sweep.is_order;
   room = sweep.room;
   started = sweep.started;
   carried = λ i inside before. elim (cases_eq (sweep.is_order.place (item_at p.items i).from.0) place) [
-    | inl same ↦ here i inside (sym (sweep.is_order.stands (item_at p.items i).from.0 (within i inside)) ∙ ap (node_at order) same)
+    | inl same ↦ here i inside (sym (sweep.is_order.stands (item_at p.items i).from.0 (sound.items i (item_at [] 0) inside).from) ∙ ap (node_at order) same)
     | inr other ↦ sweep.carried i inside (omega arith)
   ];
   caused = λ n. IfSome_then (arrival_at arrivals n) (sweep.caused n) (λ a. IsCause-further p sweep.is_order.place place arrivals n a.time a.cause);
@@ -63,6 +62,8 @@ IsSweep-next p order place arrivals sweep here within = record {
 
 -- the arrival at the node of this place is carried on over its items up to the following one
 pub record IsCarrying (p : Problem) (order : List NodeId) (place : ℕ) (held : Arrival) (following : Option ItemId) (arrivals : List (Option Arrival)) : Type 0 where
+  pub sound : IsSound p
+  pub inside : place < p.nodes
   pub sweep : IsSweep p order place arrivals
   pub stays : arrival_at arrivals (node_at order place) ≡ Some held
   pub low : ℕ
@@ -70,13 +71,12 @@ pub record IsCarrying (p : Problem) (order : List NodeId) (place : ℕ) (held : 
   pub carried : (i : ℕ) → i < low → i < length p.items → (item_at p.items i).from.0 ≡ node_at order place → IsCarried p arrivals i
 
 pub IsCarrying-last : (p : Problem) (order : List NodeId) (place : ℕ) (held : Arrival) (arrivals : List (Option Arrival)) → IsCarrying p order place held None arrivals
-    → ((i : ℕ) → i < length p.items → (item_at p.items i).from.0 < p.nodes) → IsSweep p order (place + 1) arrivals
-IsCarrying-last p order place held arrivals carrying within = IsSweep-next p order place arrivals carrying.sweep
+    → IsSweep p order (place + 1) arrivals
+IsCarrying-last p order place held arrivals carrying = IsSweep-next p order place arrivals carrying.sound carrying.sweep
     (λ i inside leaves. elim (cases_lt i carrying.low) [
       | inl below ↦ carrying.carried i below inside leaves
       | inr above ↦ absurd (leaving_from-none p.items (node_at order place) carrying.low (sym carrying.next) i above inside leaves)
     ])
-    within
 
 IsCarried-arrived : (p : Problem) (arrivals : List (Option Arrival)) (n : ℕ) (new : Arrival) (i : ℕ) → n < length arrivals → (item_at p.items i).from.0 ≢ n
     → IsCarried p arrivals i → IsCarried p (arrived arrivals n new) i
@@ -92,25 +92,40 @@ IsCarried-now p arrivals held new i there other stays sum = λ t from.
     let early : t ≤ℤ held.time = subst (ArrivesFrom t) (arrived-other arrivals (item_at p.items i).to.0 new (item_at p.items i).from.0 other ∙ stays) from in
     arrived-new arrivals (item_at p.items i).to.0 new (t +ℤ (item_at p.items i).least) there (omega (arith, ints))
 
--- a node is begun with its arrival and its first item
-pub IsCarrying-first : (p : Problem) (order : List NodeId) (place : ℕ) (held : Arrival) (following : Option ItemId) (arrivals : List (Option Arrival))
-    → IsSweep p order place arrivals → arrival_at arrivals (node_at order place) ≡ Some held → following ≡ leaving_from p.items (node_at order place) 0
-    → IsCarrying p order place held following arrivals
-IsCarrying-first p order place held following arrivals sweep stays next = record {
-  sweep = sweep;
-  stays = stays;
-  low = 0;
-  next = next;
-  carried = λ i below. absurd (omega arith);
-}
+-- what carrying over the next item needs
+pub record IsNextItem (p : Problem) (node : ℕ) (held : Arrival) (number : ℕ) (arrivals : List (Option Arrival)) : Type 0 where
+  pub within : number < length p.items
+  pub leaves : (item_at p.items number).from.0 ≡ node
+  pub sound : IsSoundItem p.nodes (item_at p.items number)
+  pub there : (item_at p.items number).to.0 < length arrivals
+  pub low : negsuc 1999999999999 ≤ℤ held.time
+  pub high : held.time ≤ℤ pos 16779216000000000
+
+pub IsCarrying-item : (p : Problem) (order : List NodeId) (place number : ℕ) (held : Arrival) (arrivals : List (Option Arrival))
+    → IsCarrying p order place held (Some (record { 0 = number })) arrivals → IsNextItem p (node_at order place) held number arrivals
+IsCarrying-item p order place number held arrivals carrying =
+    let first = leaving_from-some p.items (node_at order place) carrying.low (record { 0 = number }) (sym carrying.next) in
+    let item : IsSoundItem p.nodes (item_at p.items number) = carrying.sound.items number (item_at [] 0) first.within in
+    let P : Option Arrival → Type 0 = λ o. IfSome o (IsBetween (pos (2000000000000 + 2000000000 * carrying.sweep.is_order.place (node_at order place)))) in
+    let bounds = subst P carrying.stays (carrying.sweep.bounded (node_at order place)) in
+    record {
+      within = first.within;
+      leaves = first.leaves;
+      sound = item;
+      there = omega (arith, item.to, carrying.sweep.room);
+      low = bounds.0;
+      high = omega (arith, ints, bounds.1, carrying.sweep.is_order.at_place place carrying.inside, carrying.inside, carrying.sound.limits.nodes);
+    }
 
 -- one item more brings a new arrival
 pub IsCarrying-more : (p : Problem) (order : List NodeId) (place number : ℕ) (held new : Arrival) (following : Option ItemId) (arrivals : List (Option Arrival))
-    → place < p.nodes → IsSoundItem p.nodes (item_at p.items number) → held.time +ℤ (item_at p.items number).least ≡ new.time → new.cause ≡ OfItem (record { 0 = number })
+    → held.time +ℤ (item_at p.items number).least ≡ new.time → new.cause ≡ OfItem (record { 0 = number })
     → following ≡ leaving_from p.items (item_at p.items number).from.0 (number + 1)
     → IsCarrying p order place held (Some (record { 0 = number })) arrivals
     → IsCarrying p order place held following (arrived arrivals (item_at p.items number).to.0 new)
-IsCarrying-more p order place number held new following arrivals inside sound sum cause next carrying =
+IsCarrying-more p order place number held new following arrivals sum cause next carrying =
+    let inside = carrying.inside in
+    let sound : IsSoundItem p.nodes (item_at p.items number) = (IsCarrying-item p order place number held arrivals carrying).sound in
     let first = leaving_from-some p.items (node_at order place) carrying.low (record { 0 = number }) (sym carrying.next) in
     let sweep = carrying.sweep in
     let target : ℕ = (item_at p.items number).to.0 in
@@ -121,6 +136,8 @@ IsCarrying-more p order place number held new following arrivals inside sound su
     let stays : StaysUpTo sweep.is_order.place place arrivals (arrived arrivals target new) = λ m before. arrived-other arrivals target new m (apart m before) in
     let begins : arrival_at arrivals (item_at p.items number).from.0 ≡ Some held = rw first.leaves carrying.stays in
     record {
+      sound = carrying.sound;
+      inside = inside;
       sweep = record {
         is_order = sweep.is_order;
         room = omega (arith, sweep.room, length-set arrivals target (Some (later (get_or arrivals target None) new)));
@@ -151,28 +168,6 @@ IsCarrying-more p order place number held new following arrivals inside sound su
               | inr late ↦ absurd (first.between i late (omega arith) leaves)
             ])
       ];
-    }
-
--- what carrying needs of the next item
-pub record IsNextItem (p : Problem) (held : Arrival) (number : ℕ) (arrivals : List (Option Arrival)) : Type 0 where
-  pub within : number < length p.items
-  pub sound : IsSoundItem p.nodes (item_at p.items number)
-  pub there : (item_at p.items number).to.0 < length arrivals
-  pub bounds : IsBetween (pos (2000000000000 + 2000000000 * p.nodes)) held
-
-pub IsCarrying-item : (p : Problem) (order : List NodeId) (place number : ℕ) (held : Arrival) (arrivals : List (Option Arrival)) → place < p.nodes
-    → All (IsSoundItem p.nodes) p.items → IsCarrying p order place held (Some (record { 0 = number })) arrivals → IsNextItem p held number arrivals
-IsCarrying-item p order place number held arrivals inside sound carrying =
-    let first = leaving_from-some p.items (node_at order place) carrying.low (record { 0 = number }) (sym carrying.next) in
-    let sweep = carrying.sweep in
-    let item : IsSoundItem p.nodes (item_at p.items number) = sound number (item_at [] 0) first.within in
-    let P : Option Arrival → Type 0 = λ o. IfSome o (IsBetween (pos (2000000000000 + 2000000000 * sweep.is_order.place (node_at order place)))) in
-    let bounds = subst P carrying.stays (sweep.bounded (node_at order place)) in
-    record {
-      within = first.within;
-      sound = item;
-      there = omega (arith, item.to, sweep.room);
-      bounds = (bounds.0, omega (arith, ints, bounds.1, sweep.is_order.at_place place inside));
     }
 
 -- how many items are left from the following one on

@@ -1,5 +1,5 @@
 -- A path traced back from an arrival, item by item.
-use Rattle.std.proofs.Common.{◌≡◌, ℕ, pos, [], ◌+◌, ◌-◌, ◌+ℤ◌, ◌<◌, ◌≤◌, List, ◌∷◌, length, drop, set, Option, Some, None, arith, refl, sym, ap, ◌∙◌, subst, IsSome, IfSome, IsSomeAnd}
+use Rattle.std.proofs.Common.{◌≡◌, ℕ, pos, [], ◌+◌, ◌-◌, ◌+ℤ◌, ◌<◌, ◌≤◌, List, ◌∷◌, length, drop, set, Option, Some, None, arith, refl, sym, ap, ◌∙◌, subst, IfSome, IsSomeAnd}
 use Rattle.std.proofs.lemmas.Int.{ints}
 use Rattle.std.proofs.lemmas.List.{drop-set, drop_all}
 use Rattle.std.proofs.Math.ListN.{length-set}
@@ -8,10 +8,9 @@ use Rattle.bud_base.specs.Soundness.{IsSound}
 use Rattle.bud_base.specs.declared.ids.NodeId.{NodeId}
 use Rattle.bud_base.specs.declared.ids.ItemId.{ItemId}
 use Rattle.bud_base.specs.declared.problems.Problem.{Problem}
-use Rattle.least_check.specs.Arrivals.{arrival_at, IsCause, IsOfStart, IsOfItem, IsSweep, IsSwept}
-use Rattle.least_check.specs.Traces.{IsTrace}
+use Rattle.least_check.specs.Arrivals.{arrival_at, IsCause, IsOfItem, IsSweep, IsSwept}
 use Rattle.least_check.specs.declared.arrivals.Arrival.{Arrival}
-use Rattle.least_check.specs.declared.arrivals.Cause.TheVariants.{OfStart, OfItem}
+use Rattle.least_check.specs.declared.arrivals.Cause.TheVariants.{OfItem}
 
 -- the items from place `begin` on lead from a node with this arrival to the target, and there is room for a path to that node
 pub record IsTracing (p : Problem) (arrivals : List (Option Arrival)) (target : ℕ) (first : Arrival) (begin : ℕ) (path : List ItemId) : Type 0 where
@@ -49,32 +48,9 @@ IsTracing-none p arrivals target first path swept inside room here =
       sum = rw none (let P : Option Arrival → Type 0 = λ o. IsSomeAnd o (λ a. first.time +ℤ pos 0 ≡ a.time) in subst P (sym here) (omega (arith, ints)));
     }
 
--- what tracing back over an item needs
-pub record IsBefore (p : Problem) (arrivals : List (Option Arrival)) (i begin : ℕ) : Type 0 where
-  pub some : 0 < begin
-  pub within : i < length p.items
-  pub there : (item_at p.items i).from.0 < length arrivals
-  pub arrival : IsSome (arrival_at arrivals (item_at p.items i).from.0)
-
-some_of : (P : Arrival → Type 0) (o : Option Arrival) → IsSomeAnd o P → IsSome o
-some_of P None none = absurd none
-some_of P (Some a) _ = refl
-
 someand_then : (P Q : Arrival → Type 0) (o : Option Arrival) → IsSomeAnd o P → ((a : Arrival) → P a → Q a) → IsSomeAnd o Q
 someand_then P Q None none _ = none
 someand_then P Q (Some a) here follows = follows a here
-
-pub IsTracing-before : (p : Problem) (arrivals : List (Option Arrival)) (target : ℕ) (first : Arrival) (begin : ℕ) (path : List ItemId) (i : ItemId) → IsSound p
-    → first.cause ≡ OfItem i → IsTracing p arrivals target first begin path → IsBefore p arrivals i.0 begin
-IsTracing-before p arrivals target first begin path i sound is tracing =
-    let cause : IsOfItem p tracing.sweep.is_order.place p.nodes arrivals tracing.node first.time i.0 =
-    subst (IsCause p tracing.sweep.is_order.place p.nodes arrivals tracing.node first.time) is (IsTracing-cause p arrivals target first begin path tracing) in
-    record {
-      some = omega (arith, tracing.room, tracing.sweep.is_order.follows i.0 cause.within, ap tracing.sweep.is_order.place cause.node);
-      within = cause.within;
-      there = omega (arith, (sound.items i.0 (item_at [] 0) cause.within).from, tracing.sweep.room);
-      arrival = some_of _ _ cause.sum;
-    }
 
 -- an item is traced
 pub IsTracing-more : (p : Problem) (arrivals : List (Option Arrival)) (target : ℕ) (first before : Arrival) (begin : ℕ) (path : List ItemId) (i : ItemId) → IsSound p
@@ -100,16 +76,4 @@ IsTracing-more p arrivals target first before begin path i sound is here tracing
       within = omega (arith, length-set path (begin - 1) i);
       joined = rw items (cause.within, refl, rw cause.node tracing.joined);
       sum = rw items (someand_then _ _ (arrival_at arrivals target) tracing.sum (λ a adds. omega (arith, ints, adds, brings)));
-    }
-
--- at a start the path is whole
-pub IsTracing-last : (p : Problem) (arrivals : List (Option Arrival)) (target : ℕ) (first : Arrival) (begin : ℕ) (path : List ItemId) (start : ℕ)
-    → first.cause ≡ OfStart start → IsTracing p arrivals target first begin path → IsTrace p arrivals target start (drop begin path)
-IsTracing-last p arrivals target first begin path start is tracing =
-    let cause : IsOfStart p tracing.node first.time start =
-    subst (IsCause p tracing.sweep.is_order.place p.nodes arrivals tracing.node first.time) is (IsTracing-cause p arrivals target first begin path tracing) in
-    record {
-      within = cause.within;
-      joined = rw cause.node tracing.joined;
-      sum = rw cause.offset tracing.sum;
     }
