@@ -20,3 +20,16 @@ IsFaultWithin stop (Err (Syntax at)) = at ≤ stop
 IsFaultWithin stop (Err (Value at)) = at ≤ stop
 IsFaultWithin stop (Err NoMemory) = Unit {0}
 IsFaultWithin stop (Ok _) = Unit {0}
+
+-- this holds, unless memory ran out
+abbrev pub UnlessMemory : {X : Type 0} → Result X TextFault → Type 0 → Type 0
+UnlessMemory (Err NoMemory) P = Unit {0}
+UnlessMemory (Err (Syntax _)) P = P
+UnlessMemory (Err (Value _)) P = P
+UnlessMemory (Ok _) P = P
+
+abbrev pub IsSyntax : {X : Type 0} → Result X TextFault → Type 0
+IsSyntax (Err (Syntax _)) = Unit {0}
+IsSyntax (Err (Value _)) = ⊥
+IsSyntax (Err NoMemory) = ⊥
+IsSyntax (Ok _) = ⊥

@@ -7,7 +7,7 @@ mod parts;
 mod readings;
 mod spans;
 
-pub use lines::{Line, next_line, section};
+pub use lines::{Line, next_line, section, text_end};
 pub use numbers::{count, end, whole, word};
 pub use parts::{next_field, next_row};
 pub use readings::Reading;

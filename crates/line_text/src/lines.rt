@@ -1,6 +1,7 @@
 ghost use Rattle.std.specs.Prelude.{◌≡◌, ◌+◌, ◌≤◌, List, ℕ, length, vec_len, IfOk, IfSome};
 ghost use Rattle.std.specs.Option.{ForSome};
 ghost use Rattle.text_scan.specs.Gives.{Gives};
+ghost use Rattle.text_scan.specs.Left.{end_of};
 ghost use Rattle.line_text.specs.Lines.{Production, section, line, titled, begins};
 ghost use Rattle.line_text.specs.Answers.{GivesText, IsFaultWithin};
 ghost use Rattle.line_text.specs.Readings.{fields_left, rows_left, GoesOn};
@@ -96,4 +97,16 @@ pub fn section<'a, L: Line>(
         breach = least;
     }
     Ok((values, Reading { rest, breach }))
+}
+
+/// The least breach of a text of which no row is left.
+pub fn text_end(text: Reading<'_>) -> Result<Option<usize>, TextFault>
+    ensures read { GivesText (λ breach. breach) result (end_of (rows_left text.entry)) }
+    ensures within { IsFaultWithin (stop text.entry.rest) result }
+    ensures breach { IfOk result (λ breach. ForSome breach (λ at. at ≤ text.entry.rest.at)) }
+{
+    match next_row(text.rest) {
+        Some((row, _)) => Err(TextFault::Syntax(row.at)),
+        None => Ok(text.breach),
+    }
 }
