@@ -15,7 +15,7 @@ mod texts;
 pub use checks::ProblemFault;
 pub use ids::{ArcId, ClassId, ItemId, NodeId, PinId};
 pub use links::Links;
-pub use lists::Listed;
+pub use lists::{Listed, Times};
 pub use orders::NodeOrder;
 pub use problems::{End, Ends, Item, Items, Problem, Start, Starts};
 pub use texts::{Text, TextFault};
