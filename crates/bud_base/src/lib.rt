@@ -6,6 +6,7 @@ mod ids;
 mod links;
 mod lists;
 mod problems;
+mod steps;
 mod texts;
 
 pub use checks::ProblemFault;
@@ -13,4 +14,5 @@ pub use ids::{ArcId, ClassId, ItemId, NodeId, PinId};
 pub use links::Links;
 pub use lists::Listed;
 pub use problems::{End, Ends, Item, Items, Problem, Start, Starts};
+pub use steps::Steps;
 pub use texts::{Text, TextFault};
