@@ -12,7 +12,7 @@ mod texts;
 pub use checks::ProblemFault;
 pub use ids::{ArcId, ClassId, ItemId, NodeId, PinId};
 pub use links::Links;
-pub use lists::Listed;
+pub use lists::{Listed, Times};
 pub use problems::{End, Ends, Item, Items, Problem, Start, Starts};
 pub use steps::Steps;
 pub use texts::{Text, TextFault};

@@ -1,0 +1,10 @@
+//! Certificates: budgets, arrivals and flows of a problem in written form, and the check that they prove the budgets best.
+#![tactic(auto)]
+
+mod answers;
+mod certs;
+mod line_checks;
+mod names;
+
+pub use answers::{CertAnswer, CertFault, CertPlace};
+pub use certs::{Cert, CertClass, CertClasses, CertFlow, CertFlows, CertItem, CertItems, CertNode, CertNodes, Numbers};
