@@ -1,2 +1,11 @@
 pub mod LeavingLemmas
 pub mod LinkSteps
+pub mod Trials
+pub mod Places
+pub mod Ways
+pub mod Joining
+pub mod Explorations
+pub mod Rings
+pub mod Arrangements
+pub mod OrderLemmas
+pub mod Sums

@@ -10,6 +10,11 @@ use Rattle.bud_base.specs.declared.problems.Problem.{Problem}
 abbrev pub node_at : List NodeId → ℕ → ℕ
 node_at order k = (slice_index_or order k (record { 0 = 0 })).0
 
+-- the item joins nodes below this number
+pub record IsWithinNodes (nodes : ℕ) (item : Item) : Type 0 where
+  pub from : item.from.0 < nodes
+  pub to : item.to.0 < nodes
+
 -- the list has each node below `nodes` once, at the node's place, and each item leads to a later place
 pub record IsOrder (nodes : ℕ) (items : List Item) (order : List NodeId) : Type 0 where
   pub place : ℕ → ℕ

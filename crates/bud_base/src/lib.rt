@@ -3,8 +3,10 @@
 
 mod checks;
 mod ids;
+pub mod laws;
 mod links;
 mod lists;
+mod orders;
 mod problems;
 mod steps;
 mod texts;
@@ -13,6 +15,7 @@ pub use checks::ProblemFault;
 pub use ids::{ArcId, ClassId, ItemId, NodeId, PinId};
 pub use links::Links;
 pub use lists::{Listed, Times};
+pub use orders::NodeOrder;
 pub use problems::{End, Ends, Item, Items, Problem, Start, Starts};
 pub use steps::Steps;
 pub use texts::{Text, TextFault};
