@@ -1,0 +1,4 @@
+pub mod Changes
+pub mod Within
+pub mod Laws
+pub mod Keeping
