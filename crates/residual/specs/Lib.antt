@@ -3,3 +3,4 @@ pub mod Arcs
 pub mod Excesses
 pub mod Networks
 pub mod Insides
+pub mod Sweeps

@@ -2,6 +2,7 @@
 #![tactic(auto)]
 
 mod arcs;
+mod arrivals;
 mod nets;
 
 pub use arcs::Look;
