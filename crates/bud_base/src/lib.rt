@@ -10,6 +10,7 @@ mod liveness;
 mod orders;
 mod problems;
 mod ranges;
+mod steps;
 mod texts;
 
 pub use checks::ProblemFault;
@@ -18,4 +19,5 @@ pub use links::Links;
 pub use lists::{Listed, Times};
 pub use orders::NodeOrder;
 pub use problems::{End, Ends, Item, Items, Problem, Start, Starts};
+pub use steps::Steps;
 pub use texts::{Text, TextFault};
