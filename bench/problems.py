@@ -1,0 +1,93 @@
+#!/usr/bin/env python3
+"""Measures `raw` on layered random problems, as ratios to md5sum of the same file in the same run.
+
+usage: bench/problems.py PROGRAM [ITEMS ..]      PROGRAM as `rt ci` or `rt run` leaves it: crates/budget_cli/out/budget_cli
+"""
+
+import os
+import random
+import subprocess
+import sys
+import tempfile
+import time
+
+
+def layered(items, path, seed=1):
+    """Writes a problem of this many items over layers of nodes; every node lies on a path."""
+    draw = random.Random(seed)
+    width = 100
+    layers = max(2, items // (3 * width))
+    nodes = layers * width
+    lines = ["problem 1", f"nodes {nodes}"]
+    left = items
+    for layer in range(1, layers):
+        for place in range(width):
+            to = layer * width + place
+            lines.append(item(draw, to - width, to))
+            left -= 1
+    while left > 0:
+        layer = draw.randrange(1, layers)
+        start = (layer - 1) * width + draw.randrange(width)
+        lines.append(item(draw, start, layer * width + draw.randrange(width)))
+        left -= 1
+    for place in range(width):
+        lines.append(f"start {place} {draw.randrange(1000)}")
+    for place in range(width):
+        lines.append(f"end {nodes - width + place} {layers * 200 + draw.randrange(1000)}")
+    with open(path, "w") as file:
+        file.write("\n".join(lines) + "\n")
+
+
+def item(draw, start, to):
+    least = draw.randrange(100)
+    return f"item {start} {to} {least} {least + draw.randrange(1000)} {draw.randrange(10)}"
+
+
+def chain(items, path):
+    """Writes one chain whose nodes stand in the worst order of numbers: each item leads to a lower one."""
+    lines = ["problem 1", f"nodes {items + 1}"]
+    lines += [f"item {n + 1} {n} 10 20 1" for n in range(items)]
+    lines += [f"start {items} 0", f"end 0 {20 * items}"]
+    with open(path, "w") as file:
+        file.write("\n".join(lines) + "\n")
+
+
+def run(words):
+    """Wall seconds and peak memory in bytes of a command, the best of three runs."""
+    seconds, memory = [], []
+    for _ in range(3):
+        begin = time.monotonic()
+        child = subprocess.Popen(words, stdout=subprocess.DEVNULL)
+        _, status, usage = os.wait4(child.pid, 0)
+        child.returncode = os.waitstatus_to_exitcode(status)
+        seconds.append(time.monotonic() - begin)
+        memory.append(usage.ru_maxrss * 1024)
+    return min(seconds), min(memory), child.returncode
+
+
+def report(name, program, items, path):
+    size = os.path.getsize(path)
+    sum_seconds, _, _ = run(["md5sum", path])
+    seconds, memory, status = run([program, "raw", path])
+    beside = (memory - size) / items
+    print(
+        f"{name:8} {items:9} items {size / 1e6:7.1f} MB   status {status}   {seconds:7.3f} s = {seconds / sum_seconds:5.1f} md5sum"
+        f"   {memory / 1e6:7.1f} MB, {beside:6.1f} bytes an item beside the text"
+    )
+
+
+def main():
+    program = os.path.abspath(sys.argv[1])
+    sizes = [int(word) for word in sys.argv[2:]] or [10_000, 100_000, 1_000_000]
+    with tempfile.TemporaryDirectory() as folder:
+        path = os.path.join(folder, "p")
+        for items in sizes:
+            layered(items, path)
+            report("layered", program, items, path)
+        for items in sizes:
+            chain(items, path)
+            report("chain", program, items, path)
+
+
+if __name__ == "__main__":
+    main()

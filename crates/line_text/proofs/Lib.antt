@@ -1,0 +1,4 @@
+pub mod PartsLemmas
+pub mod NumberLemmas
+pub mod SectionLemmas
+pub mod SectionLaws
