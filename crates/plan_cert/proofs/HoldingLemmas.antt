@@ -15,7 +15,7 @@ use Rattle.plan_cert.specs.Certs.{plan_in}
 use Rattle.plan_cert.specs.Failures.{AllBelow}
 use Rattle.plan_cert.specs.Raw.{HasCounts, HasFlows, IsKeptAt, IsNumbersAnswer, OnHolds}
 use Rattle.plan_cert.specs.Totals.{IsWeightAnswer}
-use Rattle.plan_cert.specs.declared.certs.Cert.{Cert}
+use Rattle.cert_text.specs.declared.certs.Cert.{Cert}
 use Rattle.plan_cert.specs.declared.answers.CertAnswer.{CertAnswer}
 use Rattle.plan_cert.specs.declared.answers.CertAnswer.TheVariants.{Holds, Fault}
 use Rattle.plan_cert.specs.declared.answers.CertFault.TheVariants.{Shape, Bounds, Arrival, Start as LateStart, End as LateEnd, NegativeFlow, Balance, Weight}

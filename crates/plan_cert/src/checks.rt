@@ -7,13 +7,13 @@ ghost use Rattle.plan_cert.specs.Raw.{HasCounts, IsNumbersAnswer, IsRawAnswer, I
 ghost use Rattle.plan_cert.specs.Timing.{IsLate};
 
 use crate::answers::{CertAnswer, CertFault};
-use crate::certs::Cert;
 use crate::flow_checks::first_negative;
 use crate::line_checks::first_wrong_line;
 use crate::sums::Sums;
 use crate::timing_checks::{first_late, first_unbounded};
 use crate::weights::compare_weights;
 use bud_base::{ItemId, NodeId, Problem};
+use cert_text::Cert;
 
 /// Checks a certificate of a raw problem, whoever wrote it, and takes no memory.
 ///

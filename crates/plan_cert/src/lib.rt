@@ -2,7 +2,6 @@
 #![tactic(auto)]
 
 mod answers;
-mod certs;
 mod checks;
 mod flow_checks;
 mod line_checks;
@@ -14,7 +13,7 @@ mod timing_checks;
 mod weights;
 
 pub use answers::{CertAnswer, CertFault, CertPlace};
-pub use certs::{
+pub use cert_text::{
     Cert, CertClass, CertClasses, CertFlow, CertFlows, CertItem, CertItems, CertNode, CertNodes,
     Numbers,
 };

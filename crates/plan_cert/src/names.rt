@@ -2,8 +2,8 @@ ghost use Rattle.std.specs.Prelude.{◌≡◌, ◌↔◌, IsTrue};
 ghost use Rattle.std.specs.Fmt.{decimal};
 ghost use Rattle.plan_cert.specs.Lines.{NamesNode, NamesItem, NamesFlow};
 
-use crate::certs::{CertFlow, CertItem, CertNode};
 use bud_base::{Item, NodeId};
+use cert_text::{CertFlow, CertItem, CertNode};
 
 // Whether the name is the number in decimal.
 pub fn is_decimal(name: &[u8], number: u32) -> bool

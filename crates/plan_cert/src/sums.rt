@@ -5,9 +5,9 @@ ghost use Rattle.plan_cert.specs.Certs.{plan_in};
 ghost use Rattle.plan_cert.specs.Failures.{IsFailure};
 ghost use Rattle.plan_cert.specs.Raw.{HasCounts, IsKeptAt};
 
-use crate::certs::Cert;
 use crate::node_sums::first_unkept;
 use bud_base::Problem;
+use cert_text::Cert;
 use std::alloc::{AllocError, Global};
 use std::marker::Model;
 

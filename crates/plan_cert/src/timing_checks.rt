@@ -8,9 +8,9 @@ ghost use Rattle.plan_cert.specs.Raw.{HasCounts, HasItemArrival, HasStartArrival
 ghost use Rattle.plan_cert.specs.Timing.{IsLate};
 
 use crate::answers::CertFault;
-use crate::certs::Cert;
 use crate::numbers::{arrival_at, budget_at};
 use bud_base::{ItemId, Problem};
+use cert_text::Cert;
 
 // Whether the item's budget is within its bounds.
 fn is_bounded(problem: &Problem, cert: &Cert, i: usize) -> bool

@@ -10,9 +10,9 @@ ghost use Rattle.plan_cert.specs.Raw.{HasCounts};
 ghost use Rattle.plan_cert.specs.Totals.{IsFactor, IsProduct, IsTotal, IsWeightAnswer};
 
 use crate::answers::{CertAnswer, CertFault};
-use crate::certs::Cert;
 use crate::numbers::{budget_at, end_flow_at, item_flow_at, start_flow_at};
 use bud_base::{Item, Problem};
+use cert_text::Cert;
 
 // The product of two numbers.
 fn product(left: i64, right: i64) -> i128
