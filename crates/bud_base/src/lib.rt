@@ -12,6 +12,9 @@ mod problems;
 mod ranges;
 mod texts;
 
+#[cfg(test)]
+mod tests;
+
 pub use checks::ProblemFault;
 pub use ids::{ArcId, ClassId, ItemId, NodeId, PinId};
 pub use links::Links;
