@@ -2,3 +2,4 @@ pub mod PartsLemmas
 pub mod NumberLemmas
 pub mod SectionLemmas
 pub mod SectionLaws
+pub mod CountLemmas
