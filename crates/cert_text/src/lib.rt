@@ -2,6 +2,8 @@
 #![tactic(auto)]
 
 mod certs;
+mod lines;
+mod reader;
 
 pub use certs::{
     Cert, CertClass, CertClasses, CertFlow, CertFlows, CertItem, CertItems, CertNode, CertNodes,

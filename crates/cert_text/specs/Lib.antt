@@ -1,0 +1,5 @@
+pub mod Certs
+pub mod Lines
+pub mod Texts
+pub mod Reading
+pub mod Sizes
