@@ -9,3 +9,4 @@ pub use certs::{
     Cert, CertClass, CertClasses, CertFlow, CertFlows, CertItem, CertItems, CertNode, CertNodes,
     Numbers,
 };
+pub use reader::{one_value, read_cert};

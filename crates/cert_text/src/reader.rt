@@ -1,4 +1,4 @@
-ghost use Rattle.std.specs.Prelude.{◌≡◌, ◌<◌, ◌≤◌, ◌^◌, ℕ, List, length, IfOk, None};
+ghost use Rattle.std.specs.Prelude.{◌≡◌, ◌<◌, ◌≤◌, ◌^◌, ℕ, List, length, IfOk, Ok, Err, None};
 ghost use Rattle.std.specs.Option.{ForSome};
 ghost use Rattle.line_text.specs.Answers.{GivesText, IsFaultWithin, UnlessMemory, IsSyntax};
 ghost use Rattle.line_text.specs.Parts.{rows_of};
@@ -6,6 +6,7 @@ ghost use Rattle.line_text.specs.Readings.{rows_left, GoesOn};
 ghost use Rattle.line_text.specs.Spans.{stop};
 ghost use Rattle.bud_model.specs.Plans.{HasPlanNumbers};
 ghost use Rattle.cert_text.specs.Certs.{plan_in};
+ghost use Rattle.cert_text.specs.declared.certs.Cert.{Cert};
 ghost use Rattle.cert_text.specs.Texts.{Reads, IsBreached, IsMalformed, IsReadAnswer, HasAtMost};
 ghost use Rattle.cert_text.specs.Sizes.{HasFrontAtMost, HasBackAtMost};
 ghost use Rattle.cert_text.specs.Reading.{front, back, certificate};
@@ -103,3 +104,48 @@ fn read_loosely(alloc: Global, text: &[u8]) -> Result<(Cert, Option<usize>), Tex
     };
     Ok((cert, breach))
 }
+
+/// The certificate, where all its numbers are in their ranges.
+fn read_in_ranges(alloc: Global, text: &[u8]) -> Result<Cert, TextFault>
+    requires { length text.now < 2 ^ 31 }
+    ensures answer { IsReadAnswer text.now result }
+    ensures within { IsFaultWithin (length text.now) result }
+    ensures size { IfOk result (HasAtMost (length text.now)) }
+{
+    let (cert, breach) = read_loosely(alloc, text)?;
+    match breach {
+        None => Ok(cert),
+        Some(at) => Err(TextFault::Value(at)),
+    }
+}
+
+/// Reads a certificate text: the line `certificate 1`, then lines `class K CLOCK EDGE N ..`, `node NAME K ARRIVAL`,
+/// `item FROM TO K BUDGET FLOW`, `start NAME K FLOW` and `end NAME K FLOW`, in this order, and last the line `weight W`.
+/// Times are in ps.
+///
+/// Syntax comes where the text isn't of this form, Value where a number is out of its range, with the offset of the
+/// first such number. It takes one pass over the text, and memory for the certificate alone.
+pub fn read_cert(alloc: Global, text: &[u8]) -> Result<Cert, TextFault>
+    requires { length text.now < 2 ^ 31 }
+    // What each answer says of the text.
+    ensures answer { IsReadAnswer text.now result }
+    // A text in the grammar is read, with its one value.
+    ensures reads { (cert : Cert) → Reads text.now cert → UnlessMemory result (result ≡ Ok cert) }
+    // One with a number out of its range is refused for it.
+    ensures breached { (at : ℕ) → IsBreached text.now at → UnlessMemory result (result ≡ Err (TextFault.Value at)) }
+    // One of another form is refused as that.
+    ensures malformed { IsMalformed text.now → UnlessMemory result (IsSyntax result) }
+    ensures within { IsFaultWithin (length text.now) result }
+    ensures size { IfOk result (HasAtMost (length text.now)) }
+    // What the checks of certificates ask for.
+    ensures numbers { IfOk result (λ cert. HasPlanNumbers (plan_in cert)) }
+{
+    read_in_ranges(alloc, text)
+}
+
+/// A certificate text has at most one value, and at most one least breach.
+pub fn one_value()
+    ensures value { (text : List ℕ) (p q : Cert) → Reads text p → Reads text q → p ≡ q }
+    ensures breach { (text : List ℕ) (a b : ℕ) → IsBreached text a → IsBreached text b → a ≡ b }
+    ensures apart { (text : List ℕ) (cert : Cert) (at : ℕ) → Reads text cert → IsBreached text at → ⊥ }
+{}
