@@ -13,6 +13,9 @@ mod ranges;
 mod steps;
 mod texts;
 
+#[cfg(test)]
+mod tests;
+
 pub use checks::ProblemFault;
 pub use ids::{ArcId, ClassId, ItemId, NodeId, PinId};
 pub use links::Links;
