@@ -9,3 +9,10 @@ pub mod Rings
 pub mod Arrangements
 pub mod OrderLemmas
 pub mod Sums
+pub mod RangeLemmas
+pub mod MarkLemmas
+pub mod ReachLemmas
+pub mod FindLemmas
+pub mod SoundLemmas
+pub mod CheckLemmas
+pub mod LiveLemmas

@@ -4,5 +4,7 @@ pub mod OrderLists
 pub mod Searches
 pub mod Arrivals
 pub mod Soundness
+pub mod Markings
+pub mod Checking
 pub mod LinkLists
 pub mod Leaving

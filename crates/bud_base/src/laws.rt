@@ -1,7 +1,7 @@
 //! Laws of paths, orders and arrivals. Each function does nothing, and its clause is the law.
-ghost use Rattle.std.specs.Prelude.{◌≡◌, ℕ, ℤ, ◌+ℤ◌, ◌-ℤ◌, ◌≤ℤ◌, List, [], ◌++◌};
+ghost use Rattle.std.specs.Prelude.{◌≡◌, ◌↔◌, ℕ, ℤ, ◌+ℤ◌, ◌-ℤ◌, ◌≤ℤ◌, List, [], ◌++◌};
 ghost use Rattle.bud_base.specs.Arrivals.{FollowDelays, FollowStarts, AreSuiting};
-ghost use Rattle.bud_base.specs.Orders.{IsOrder, IsCycle};
+ghost use Rattle.bud_base.specs.Orders.{IsOrder, IsCycle, IsLive, Passes};
 ghost use Rattle.bud_base.specs.Paths.{Joins, Path, IsPath, end_at, sum_along, room, slack};
 ghost use Rattle.bud_base.specs.declared.ids.NodeId.{NodeId};
 ghost use Rattle.bud_base.specs.declared.ids.ItemId.{ItemId};
@@ -32,6 +32,11 @@ pub fn orders_exclude_cycles()
         → (is : List ItemId) (node : ℕ) → Joins items node is node → is ≡ [] }
     ensures cycle { (nodes : ℕ) (items : List Item) (order : List NodeId) → IsOrder nodes items order
         → (is : List ItemId) → IsCycle items is → ⊥ }
+{}
+
+/// The live nodes are those that a path passes.
+pub fn live_nodes_lie_on_paths()
+    ensures { (p : Problem) (n : ℕ) → (IsLive p n ↔ ((path : Path) × IsPath p path × Passes p path n)) }
 {}
 
 /// Items that join up add up to at most the difference of arrivals that follow their delays.

@@ -6,8 +6,10 @@ mod ids;
 pub mod laws;
 mod links;
 mod lists;
+mod liveness;
 mod orders;
 mod problems;
+mod ranges;
 mod texts;
 
 pub use checks::ProblemFault;
