@@ -10,10 +10,9 @@ mod liveness;
 mod orders;
 mod problems;
 mod ranges;
-mod texts;
-
 #[cfg(test)]
 mod tests;
+mod texts;
 
 pub use checks::ProblemFault;
 pub use ids::{ArcId, ClassId, ItemId, NodeId, PinId};
