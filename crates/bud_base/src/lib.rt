@@ -15,6 +15,7 @@ mod texts;
 
 #[cfg(test)]
 mod tests;
+mod texts;
 
 pub use checks::ProblemFault;
 pub use ids::{ArcId, ClassId, ItemId, NodeId, PinId};
