@@ -1,5 +1,10 @@
 pub mod Paths
 pub mod Orders
+pub mod OrderLists
+pub mod Searches
+pub mod Arrivals
 pub mod Soundness
+pub mod Markings
+pub mod Checking
 pub mod LinkLists
 pub mod Leaving

@@ -62,3 +62,7 @@ pub record IsLeastSlack (p : Problem) (s : ℤ) : Type 0 where
 
 abbrev pub HasNoPath : Problem → Type 0
 HasNoPath p = (path : Path) → IsPath p path → ⊥
+
+-- no path has negative slack at least delays
+abbrev pub Meets : Problem → Type 0
+Meets p = (path : Path) → IsPath p path → pos 0 ≤ℤ slack p (least_of p) path

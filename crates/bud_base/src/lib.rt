@@ -3,14 +3,24 @@
 
 mod checks;
 mod ids;
+pub mod laws;
 mod links;
 mod lists;
+mod liveness;
+mod orders;
 mod problems;
+mod ranges;
+mod steps;
 mod texts;
+
+#[cfg(test)]
+mod tests;
 
 pub use checks::ProblemFault;
 pub use ids::{ArcId, ClassId, ItemId, NodeId, PinId};
 pub use links::Links;
-pub use lists::Listed;
+pub use lists::{Listed, Times};
+pub use orders::NodeOrder;
 pub use problems::{End, Ends, Item, Items, Problem, Start, Starts};
+pub use steps::Steps;
 pub use texts::{Text, TextFault};

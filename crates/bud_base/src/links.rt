@@ -1,4 +1,4 @@
-ghost use Rattle.std.specs.Prelude.{◌≡◌, ◌≤◌, ◌<◌, None, length, slice_index_or, All, IfOk};
+ghost use Rattle.std.specs.Prelude.{◌≡◌, ◌≤◌, ◌<◌, ◌↔◌, IsTrue, None, length, slice_index_or, All, IfOk};
 ghost use Rattle.bud_base.specs.Leaving.{AreLinks, LeavesBelow};
 
 use crate::ids::{ItemId, NodeId};
@@ -32,6 +32,13 @@ impl Links {
         let first = vec![in alloc; None; nodes as usize]?;
         let next = vec![in alloc; None; items]?;
         Ok(Links { first, next })
+    }
+
+    /// Whether there is room for this many nodes and items.
+    pub fn fits(&self, nodes: u32, items: usize) -> bool
+        ensures { IsTrue result ↔ ((nodes ≤ length self.now.first) × (items ≤ length self.now.next)) }
+    {
+        nodes as usize <= self.first.len() && items <= self.next.len()
     }
 
     /// Links these items, in time linear in the room for nodes and the items.

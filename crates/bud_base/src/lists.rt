@@ -86,3 +86,6 @@ impl<T: Drop> Listed<T> {
         self.vec[place] = element;
     }
 }
+
+/// Times in ps, or what flows carry.
+pub type Times = Listed<i64>;

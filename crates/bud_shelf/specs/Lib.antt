@@ -1,3 +1,5 @@
 pub mod Outside
 pub mod Stored
 pub mod Kept
+pub mod Calls
+pub mod Memory

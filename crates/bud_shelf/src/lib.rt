@@ -4,11 +4,17 @@
 //! to fail at.
 #![tactic(auto)]
 
+mod calls;
+mod memory;
 mod safe;
 mod shelves;
 mod sinks;
 mod stored;
 
+pub use memory::{MemShelf, MemSink};
 pub use safe::{SafeShelf, SafeSink};
 pub use shelves::{LONGEST_FILE, Shelf, ShelfFault};
 pub use sinks::{Sink, SinkFault};
+
+#[cfg(test)]
+mod tests;

@@ -45,12 +45,14 @@ pub trait Shelf {
         ensures count { faults self.old ≤ faults self.new }
 
         // The file, or the cause of the refusal.
-        ensures answer { IsReadAnswer (files self.old) (faults self.old) (faults self.new) name.now into.new.items result };
+        ensures answer { IsReadAnswer (files self.old) (faults self.old) (faults self.new)
+            name.now into.new.items result };
 
     /// Writes a file in place of what its name stood for. After a refusal that file may hold anything.
     fn write(&mut self, name: &str, bytes: &[u8]) -> Result<(), ShelfFault>
         ensures count { faults self.old ≤ faults self.new }
 
         // The file is written whole, or the cause of the refusal. All other files stay either way.
-        ensures answer { IsWriteAnswer (files self.old) (files self.new) (faults self.old) (faults self.new) name.now bytes.now result };
+        ensures answer { IsWriteAnswer (files self.old) (files self.new) (faults self.old) (faults self.new)
+            name.now bytes.now result };
 }

@@ -33,5 +33,6 @@ pub trait Sink {
         ensures count { faults self.old ≤ faults self.new }
 
         // The whole piece is appended, or the cause of the refusal and a prefix.
-        ensures answer { IsPutAnswer (taken self.old) (taken self.new) (faults self.old) (faults self.new) bytes.now result };
+        ensures answer { IsPutAnswer (taken self.old) (taken self.new) (faults self.old) (faults self.new)
+            bytes.now result };
 }

@@ -1,0 +1,4 @@
+pub mod Ints
+pub mod SumLemmas
+pub mod Exchange
+pub mod ArrivalLemmas

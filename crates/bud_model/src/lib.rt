@@ -1,0 +1,10 @@
+//! Plain values of the design and of plans, with what they mean, and the laws of budgets.
+#![tactic(auto)]
+
+mod edges;
+mod laws;
+mod plans;
+
+pub use edges::Edge;
+pub use laws::{holding_plan_is_best, suited_budgets_fit, weight_is_at_most_value};
+pub use plans::Plan;

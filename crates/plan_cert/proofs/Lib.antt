@@ -1,0 +1,5 @@
+pub mod Decimals
+pub mod LineNumbers
+pub mod NodeSumLemmas
+pub mod FailureLemmas
+pub mod TotalLemmas

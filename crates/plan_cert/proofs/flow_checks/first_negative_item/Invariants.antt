@@ -1,0 +1,7 @@
+use Rattle.plan_cert.specs.Certs.{plan_in}
+use Rattle.plan_cert.specs.Failures.{AllBelow}
+use Rattle.plan_cert.specs.Raw.{IsFlowAt}
+use Rattle.plan_cert.proofs.flow_checks.first_negative_item.Given as goal
+
+abbrev pub invariant-loop-i : goal.invariant-loop-i
+invariant-loop-i l = AllBelow (IsFlowAt (plan_in l.fn.cert)) l.i

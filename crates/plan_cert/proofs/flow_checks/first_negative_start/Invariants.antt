@@ -1,0 +1,7 @@
+use Rattle.plan_cert.specs.Certs.{plan_in}
+use Rattle.plan_cert.specs.Failures.{AllBelow}
+use Rattle.plan_cert.specs.Raw.{IsStartFlowAt}
+use Rattle.plan_cert.proofs.flow_checks.first_negative_start.Given as goal
+
+abbrev pub invariant-loop-s : goal.invariant-loop-s
+invariant-loop-s l = AllBelow (IsStartFlowAt (plan_in l.fn.cert)) l.s

@@ -1,0 +1,6 @@
+use Rattle.plan_cert.specs.Lines.{IsNodeLine}
+use Rattle.plan_cert.specs.Failures.{AllBelow}
+use Rattle.plan_cert.proofs.line_checks.first_wrong_node.Given as goal
+
+abbrev pub invariant-loop-k : goal.invariant-loop-k
+invariant-loop-k l = AllBelow (IsNodeLine l.lines) l.k

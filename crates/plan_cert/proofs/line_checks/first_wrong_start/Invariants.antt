@@ -1,0 +1,6 @@
+use Rattle.plan_cert.specs.Lines.{IsStartLine}
+use Rattle.plan_cert.specs.Failures.{AllBelow}
+use Rattle.plan_cert.proofs.line_checks.first_wrong_start.Given as goal
+
+abbrev pub invariant-loop-s : goal.invariant-loop-s
+invariant-loop-s l = AllBelow (IsStartLine l.starts l.lines) l.s

@@ -1,0 +1,7 @@
+use Rattle.std.proofs.Common.{arith}
+use Rattle.std.proofs.lemmas.Grind.{common_steps}
+use Rattle.plan_cert.proofs.LineNumbers.{IsPlanNumber-at}
+use Rattle.plan_cert.proofs.numbers.budget_at.Goals as goal
+
+pub returns-clause-range : goal.returns-clause-range
+returns-clause-range c = IsPlanNumber-at c.args.cert.now.items (λ line. line.budget) c.args.i _ c.requires.numbers.budgets c.requires.within (grind (arith, common_steps))

@@ -1,0 +1,7 @@
+use Rattle.plan_cert.specs.Certs.{plan_in}
+use Rattle.plan_cert.specs.Failures.{AllBelow}
+use Rattle.plan_cert.specs.Raw.{HasEndArrival}
+use Rattle.plan_cert.proofs.timing_checks.first_late_end.Given as goal
+
+abbrev pub invariant-loop-e : goal.invariant-loop-e
+invariant-loop-e l = AllBelow (HasEndArrival l.fn.problem (plan_in l.fn.cert)) l.e

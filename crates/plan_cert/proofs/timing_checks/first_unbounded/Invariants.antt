@@ -1,0 +1,7 @@
+use Rattle.bud_model.specs.Budgets.{IsWithinBounds}
+use Rattle.plan_cert.specs.Certs.{plan_in}
+use Rattle.plan_cert.specs.Failures.{AllBelow}
+use Rattle.plan_cert.proofs.timing_checks.first_unbounded.Given as goal
+
+abbrev pub invariant-loop-i : goal.invariant-loop-i
+invariant-loop-i l = AllBelow (IsWithinBounds l.fn.problem (plan_in l.fn.cert).budgets) l.i

@@ -1,0 +1,6 @@
+pub mod Lines
+pub mod Failures
+pub mod Certs
+pub mod Raw
+pub mod NodeSums
+pub mod Totals

@@ -1,0 +1,63 @@
+use bud_base::{ClassId, Listed, Text};
+use bud_model::Edge;
+
+/// The line of a class.
+#[derive(Debug, Drop)]
+pub struct CertClass {
+    pub number: ClassId,
+    /// The name of the class's clock.
+    pub clock: Text,
+    pub edge: Edge,
+    /// The numbers of the exceptions that the class meets.
+    pub exceptions: Numbers,
+}
+
+/// The line of a node.
+#[derive(Debug, Drop)]
+pub struct CertNode {
+    pub name: Text,
+    pub class: ClassId,
+    /// In ps.
+    pub arrival: i64,
+}
+
+/// The line of an item.
+#[derive(Debug, Drop)]
+pub struct CertItem {
+    pub from: Text,
+    pub to: Text,
+    pub class: ClassId,
+    /// In ps.
+    pub budget: i64,
+    pub flow: i64,
+}
+
+/// The line of a start or an end.
+#[derive(Debug, Drop)]
+pub struct CertFlow {
+    pub name: Text,
+    pub class: ClassId,
+    pub flow: i64,
+}
+
+pub type Numbers = Listed<u32>;
+
+pub type CertClasses = Listed<CertClass>;
+
+pub type CertNodes = Listed<CertNode>;
+
+pub type CertItems = Listed<CertItem>;
+
+pub type CertFlows = Listed<CertFlow>;
+
+/// The lines of a certificate, in the order in which they are written.
+#[derive(Debug, Drop)]
+pub struct Cert {
+    pub classes: CertClasses,
+    pub nodes: CertNodes,
+    pub items: CertItems,
+    pub starts: CertFlows,
+    pub ends: CertFlows,
+    /// What the budgets weigh.
+    pub weight: i128,
+}

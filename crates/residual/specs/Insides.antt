@@ -1,0 +1,26 @@
+-- How the fields of a network keep its value.
+use Rattle.std.specs.Prelude.{◌≡◌, ℕ, ◌+◌, ◌<◌, List, ℤ, length}
+use Rattle.bud_flow.specs.Sums.{number_at}
+use Rattle.residual.specs.Networks.{Network, IsLawful}
+use Rattle.residual.specs.Excesses.{AreExcesses}
+use Rattle.residual.specs.declared.arcs.Arc.{Arc}
+use Rattle.residual.specs.declared.nets.Net.TheInside.{Inside}
+
+abbrev pub network_of : Inside → Network
+network_of net = record {
+  nodes = net.nodes;
+  items = net.items;
+  starts = net.starts;
+  ends = net.ends;
+  arcs = net.arcs.items;
+  flows = net.flows.items;
+  kept = net.kept.items;
+  potentials = net.potentials.items;
+  is_open = net.is_open;
+}
+
+-- the law of the network, and its excesses are at hand
+pub record IsKeeping (net : Inside) : Type 0 where
+  pub lawful : IsLawful (network_of net)
+  pub excess_size : length net.excess.items ≡ net.nodes + 1
+  pub excesses : AreExcesses net.arcs.items net.flows.items net.excess.items

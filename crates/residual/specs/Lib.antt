@@ -1,0 +1,6 @@
+pub mod Bounds
+pub mod Arcs
+pub mod Excesses
+pub mod Networks
+pub mod Insides
+pub mod Sweeps

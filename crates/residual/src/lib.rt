@@ -1,0 +1,9 @@
+//! The residual network of a problem: arcs with flows, potentials that keep reduced costs at least 0, and excess.
+#![tactic(auto)]
+
+mod arcs;
+mod arrivals;
+mod nets;
+
+pub use arcs::Look;
+pub use nets::Net;

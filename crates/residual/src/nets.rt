@@ -1,0 +1,124 @@
+ghost use Rattle.std.specs.Prelude.{◌≡◌, ◌<◌, ◌+◌, ◌≤ℤ◌, ◌+ℤ◌, ◌-ℤ◌, ◌^◌, pos, false, true, slice_set, length};
+ghost use Rattle.bud_flow.specs.Sums.{number_at};
+
+use crate::arcs::{Arc, Look, add_at, forward_amount, keep, lift_at, look_at, move_excess};
+use bud_base::{ItemId, NodeId, Steps};
+use std::marker::Model;
+use std::sync::ledger::Ledger;
+
+/// A residual network: nodes and a root, and for each item, start and end its arcs with their flows.
+#[derive(Debug, Drop)]
+pub struct Net {
+    nodes: u32,
+    items: usize,
+    starts: usize,
+    ends: usize,
+    arcs: Vec<Arc>,
+    flows: Vec<i128>,
+    excess: Vec<i128>,
+    kept: Vec<i64>,
+    potentials: Vec<i64>,
+    is_open: bool,
+}
+
+impl Model for Net {
+    ghost use Rattle.residual.specs.Networks.{Network};
+
+    ghost Value = { Network };
+
+    ghost use Rattle.residual.specs.Insides.{network_of, IsKeeping};
+
+    ghost view = { network_of };
+
+    ghost invariant = { IsKeeping };
+}
+
+impl Net {
+    ghost use Rattle.residual.specs.Arcs.{reduced_cost};
+    ghost use Rattle.residual.specs.Bounds.{IsSmall};
+    ghost use Rattle.residual.specs.Excesses.{flows_after};
+    ghost use Rattle.residual.specs.Networks.{IsKey, residual, IsLawful, AreReduced, excess_at, item_flow_at, start_flow_at, end_flow_at};
+
+    /// Looks at a residual arc, which is a step.
+    pub fn look<L: Ledger>(&self, arc: usize, steps: &mut Steps<L>) -> Look
+        requires { IsKey self.now arc }
+        ensures look { result ≡ residual self.now arc }
+        ensures lawful { IsLawful self.now }
+        ensures steps { steps.new ≡ steps.old + 1 }
+    {
+        steps.tick();
+        look_at(&self.arcs, &self.flows, arc)
+    }
+
+    /// The flow into the node less the flow out of it.
+    pub fn excess(&self, node: NodeId) -> i128
+        requires { node.0 < self.now.nodes + 1 }
+        ensures excess { result ≡ excess_at self.now node.0 }
+        ensures lawful { IsLawful self.now }
+    {
+        self.excess[node.0 as usize]
+    }
+
+    /// The potential of a node, with the lifts of the open round, in ps.
+    pub fn potential(&self, node: NodeId) -> i64
+        requires { node.0 < self.now.nodes + 1 }
+        ensures potential { result ≡ number_at self.now.potentials node.0 }
+        ensures lawful { IsLawful self.now }
+    {
+        self.potentials[node.0 as usize]
+    }
+
+    /// The flow over the item's two arcs.
+    pub fn item_flow(&self, item: ItemId) -> i128
+        requires { item.0 < self.now.items }
+        ensures { result ≡ item_flow_at self.now item.0 }
+    {
+        let place = item.0 as usize;
+        self.flows[place] + self.flows[self.items + place]
+    }
+
+    /// The flow of a start, by its number.
+    pub fn start_flow(&self, number: u32) -> i128
+        requires { number < self.now.starts }
+        ensures { result ≡ start_flow_at self.now number }
+    {
+        self.flows[self.items + self.items + number as usize]
+    }
+
+    /// The flow of an end, by its number.
+    pub fn end_flow(&self, number: u32) -> i128
+        requires { number < self.now.ends }
+        ensures { result ≡ end_flow_at self.now number }
+    {
+        self.flows[self.items + self.items + self.starts + number as usize]
+    }
+
+    /// Lifts one node's potential by this many ps, which opens a round.
+    pub fn lift(&mut self, node: NodeId, by: i64)
+        requires node { node.0 < self.old.nodes }
+        requires small { IsSmall (number_at self.old.potentials node.0 +ℤ by) }
+        ensures lifted { self.new ≡ record self.old { potentials = slice_set self.old.potentials node.0 (number_at self.old.potentials node.0 +ℤ by); is_open = true } }
+        ensures lawful { IsLawful self.new }
+    {
+        lift_at(&mut self.potentials, node.0 as usize, by);
+        self.is_open = true;
+    }
+
+    /// Sends an amount over a residual arc, and closes the round: the potentials are kept.
+    pub fn push(&mut self, arc: usize, amount: i128)
+        requires key { IsKey self.old arc }
+        requires reduced { AreReduced self.old self.old.potentials }
+        requires tight { reduced_cost self.old.potentials (residual self.old arc) ≡ pos 0 }
+        requires least { pos 0 ≤ℤ amount }
+        requires room { amount ≤ℤ (residual self.old arc).room }
+        ensures pushed { self.new ≡ record self.old { flows = flows_after self.old.flows arc amount; kept = self.old.potentials; is_open = false } }
+        ensures lawful { IsLawful self.new }
+    {
+        keep(&mut self.kept, &self.potentials, self.is_open);
+        self.is_open = false;
+        let pair = arc / 2;
+        let amount = forward_amount(arc, amount);
+        add_at(&mut self.flows, pair, amount);
+        move_excess(&mut self.excess, &self.arcs, pair, amount);
+    }
+}
