@@ -5,3 +5,4 @@ pub mod Clipped
 pub mod Readings
 pub mod Lines
 pub mod Answers
+pub mod Written
