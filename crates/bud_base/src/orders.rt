@@ -2,7 +2,8 @@ ghost use Rattle.std.specs.Prelude.{◌≡◌, ◌^◌, ◌<◌, ◌≤◌, ◌�
 ghost use Rattle.bud_base.specs.Leaving.{AreLinks};
 ghost use Rattle.bud_base.specs.OrderLists.{node_room, item_room, FitsRoom, KeepsRoom};
 ghost use Rattle.bud_base.specs.Orders.{IsWithinNodes, IsOrder, IsCycle};
-ghost use Rattle.bud_base.specs.Searches.{mark_at, AreNew, IsTop, IsStep, IsArranged, IsExplored, IsSearched, IsFound, IsLeastPlace, IsTurned};
+ghost use Rattle.bud_base.specs.Rings.{IsLeastPlace, IsTurned};
+ghost use Rattle.bud_base.specs.Searches.{mark_at, AreNew, IsTop, IsStep, IsArranged, IsExplored, IsSearched, IsFound};
 
 use crate::ids::{ItemId, NodeId};
 use crate::links::Links;
