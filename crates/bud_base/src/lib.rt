@@ -11,8 +11,6 @@ mod orders;
 mod problems;
 mod ranges;
 mod steps;
-mod texts;
-
 #[cfg(test)]
 mod tests;
 mod texts;
