@@ -76,17 +76,26 @@ def report(name, program, items, path):
     )
 
 
+def make(kind, items, path):
+    """Writes a problem in a process of its own: a child's peak memory begins with that of its parent."""
+    subprocess.run([sys.executable, __file__, "--make", kind, str(items), path], check=True)
+
+
+KINDS = {"layered": layered, "chain": chain}
+
+
 def main():
+    if sys.argv[1] == "--make":
+        KINDS[sys.argv[2]](int(sys.argv[3]), sys.argv[4])
+        return
     program = os.path.abspath(sys.argv[1])
     sizes = [int(word) for word in sys.argv[2:]] or [10_000, 100_000, 1_000_000]
     with tempfile.TemporaryDirectory() as folder:
         path = os.path.join(folder, "p")
-        for items in sizes:
-            layered(items, path)
-            report("layered", program, items, path)
-        for items in sizes:
-            chain(items, path)
-            report("chain", program, items, path)
+        for kind in KINDS:
+            for items in sizes:
+                make(kind, items, path)
+                report(kind, program, items, path)
 
 
 if __name__ == "__main__":

@@ -8,3 +8,6 @@ mod worst_ends;
 mod worst_paths;
 
 pub use checks::{Least, LeastCheck};
+
+#[cfg(test)]
+mod tests;

@@ -6,3 +6,4 @@ pub mod Readings
 pub mod Lines
 pub mod Answers
 pub mod Names
+pub mod Written

@@ -9,6 +9,7 @@ mod parts;
 mod readings;
 mod spans;
 mod wide;
+mod writing;
 
 pub use lines::{Line, next_line, section, text_end};
 pub use names::{counts, name};
@@ -18,3 +19,4 @@ pub use parts::{next_field, next_row};
 pub use readings::Reading;
 pub use spans::Span;
 pub use wide::wide_whole;
+pub use writing::{put_count, put_field, put_whole};

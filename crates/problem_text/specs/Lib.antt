@@ -1,3 +1,4 @@
 pub mod Lines
 pub mod Problems
 pub mod Reading
+pub mod Writing

@@ -3,5 +3,7 @@
 
 mod lines;
 mod reader;
+mod writer;
 
-pub use reader::read_problem;
+pub use reader::{one_value, read_problem};
+pub use writer::write_problem;

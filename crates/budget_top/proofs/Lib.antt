@@ -1,0 +1,2 @@
+pub mod JoinsWithin
+pub mod OneStatus

@@ -1,0 +1,121 @@
+use crate::run_budget;
+use bud_shelf::{LONGEST_FILE, MemShelf, MemSink, SafeShelf, SafeSink};
+use std::alloc::{AllocError, Global};
+use std::test::Fail;
+
+/// Runs `raw p` over a shelf with this file.
+fn raw(alloc: Global, text: &str) -> Result<(u8, String), Fail> {
+    let mut shelf = SafeShelf::new(alloc);
+    shelf.add("p", text.as_bytes())?;
+    run(alloc, &["raw", "p"], &mut shelf)
+}
+
+fn run(alloc: Global, words: &[&str], shelf: &mut SafeShelf) -> Result<(u8, String), Fail> {
+    let mut sink = SafeSink::new(alloc);
+    let words = owned(alloc, words)?;
+    let status = run_budget(alloc, words.as_slice(), shelf, &mut sink);
+    let text = str::from_utf8(sink.bytes())?;
+    Ok((status, String::from_str(alloc, text)?))
+}
+
+fn owned(alloc: Global, words: &[&str]) -> Result<Vec<String>, AllocError> {
+    let mut all = Vec::new(alloc);
+    for word in words {
+        all.push(String::from_str(alloc, word)?)?;
+    }
+    Ok(all)
+}
+
+#[test]
+fn raw_answers_the_worked_problems(rt: HostRuntime) -> Result<(), Fail> {
+    let chain = "problem 1\nnodes 3\nitem 0 1 40 100 3\nitem 1 2 30 90 2\nstart 0 0\nend 2 ";
+    for (end, status, text) in [
+        ("150\n", 0, "meets 80\n"),
+        ("70\n", 0, "meets 0\n"),
+        (
+            "69",
+            1,
+            "violated -1\nstart 0 0 0\narc 0 1 40\narc 1 2 30\nend 2 0 69\n",
+        ),
+    ] {
+        let problem = format!(in rt.alloc(); "{chain}{end}")?;
+        let (answer, printed) = raw(rt.alloc(), problem.as_str())?;
+        assert_eq!(rt; answer, status, "at {end}");
+        assert_eq!(rt; printed.as_str(), text);
+    }
+    Ok(())
+}
+
+#[test]
+fn raw_names_each_refusal(rt: HostRuntime) -> Result<(), Fail> {
+    for (problem, status, text) in [
+        ("problem 1\nnodes 0\n", 0, "no paths\n"),
+        ("problem 1\nnodes 1\n", 5, "design dead 0\n"),
+        (
+            "problem 1\nnodes 2\nitem 0 1 0 5 1\nitem 1 0 0 5 1\nstart 0 0\nend 1 9\n",
+            5,
+            "design cycle 2\narc 0 1\narc 1 0\n",
+        ),
+        (
+            "problem 1\nnodes 2\nitem 1 0 1 1 0\nstart 1 0\nend 0 5\n",
+            0,
+            "meets 4\n",
+        ),
+        ("problem 1\nnodes 1\nstart 0 3\nend 0 5\n", 0, "meets 2\n"),
+        ("problem 1\nnodes 1\nstart 1 0\n", 5, "design bad-node 1\n"),
+        (
+            "problem 1\nnodes 1\nitem 0 0 2 1 0\n",
+            5,
+            "design bad-bounds 0\n",
+        ),
+        (
+            "problem 1\nnodes 1\nstart 0 2000000000001\n",
+            5,
+            "design bad-time 0\n",
+        ),
+        ("problem 1\nnodes 8388609\n", 6, "limit size 8388609\n"),
+        ("problem 1\nnodes x\n", 4, "refused p 10 syntax\n"),
+        ("problem 1\nnodes -1\n", 4, "refused p 16 value\n"),
+    ] {
+        let (answer, printed) = raw(rt.alloc(), problem)?;
+        assert_eq!(rt; answer, status, "at {problem}");
+        if status != 4 {
+            assert_eq!(rt; printed.as_str(), text);
+        }
+    }
+    Ok(())
+}
+
+#[test]
+fn words_and_missing_files_are_named(rt: HostRuntime) -> Result<(), Fail> {
+    let mut shelf = SafeShelf::new(rt.alloc());
+    for (words, status, text) in [
+        (["raw", "p"].as_slice(), 3, "fault p\n"),
+        (["raw"].as_slice(), 2, "words\n"),
+        ([].as_slice(), 2, "words\n"),
+        (["paint", "p"].as_slice(), 2, "words\n"),
+    ] {
+        let (answer, printed) = run(rt.alloc(), words, &mut shelf)?;
+        assert_eq!(rt; answer, status);
+        assert_eq!(rt; printed.as_str(), text);
+    }
+    Ok(())
+}
+
+#[test]
+fn failing_calls_and_long_files_are_named(rt: HostRuntime) -> Result<(), Fail> {
+    let mut shelf = MemShelf::new(rt.alloc());
+    shelf.add("p", b"problem 1\nnodes 0\n")?;
+    shelf.add_long("v", LONGEST_FILE + 1)?;
+    shelf.fail_at(2)?;
+    let mut sink = MemSink::new(rt.alloc());
+    sink.fail_at(4)?;
+    for (name, status) in [("p", 0), ("p", 3), ("v", 6), ("p", 3)] {
+        let words = owned(rt.alloc(), &["raw", name])?;
+        let answer = run_budget(rt.alloc(), words.as_slice(), &mut shelf, &mut sink);
+        assert_eq!(rt; answer, status);
+    }
+    let printed = str::from_utf8(sink.bytes())?;
+    assert!(rt; printed.starts_with("no paths\nfault p\nlimit v 268435457\n"));
+    Ok(())
+}
