@@ -6,7 +6,8 @@ use Rattle.std.proofs.lemmas.List.Edits.{length-between, get_or-between}
 use Rattle.std.proofs.lemmas.Bool.{cases_eq}
 use Rattle.bud_base.specs.Paths.{Joins, item_at}
 use Rattle.bud_base.specs.Leaving.{leaving_from}
-use Rattle.bud_base.specs.Searches.{mark_at, IsPlaced, is_new, ArePlaced, AreTried, IsTop, LeadsTo, IsArranged, NoneRenewed, HasRing, AreExplored}
+use Rattle.bud_base.specs.Rings.{HasRing}
+use Rattle.bud_base.specs.Searches.{mark_at, IsPlaced, is_new, ArePlaced, AreTried, IsTop, LeadsTo, IsArranged, NoneRenewed, AreExplored}
 use Rattle.bud_base.proofs.Places.{ArePlaced-set, ArePlaced-more, AreTried-set, count_new-less, count_new-kept, NoneRenewed-set, within_from_mark}
 use Rattle.bud_base.proofs.Trials.{AreTried-more}
 use Rattle.bud_base.proofs.Ways.{id_at, node_on, node_on-below, node_on-top, node_on-more, IsJoined-more, IsWay, IsWay-top, IsWay-more, IsWay-less, new_is_unplaced, open_is_unplaced}

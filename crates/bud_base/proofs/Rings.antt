@@ -9,7 +9,7 @@ use Rattle.std.proofs.lemmas.Slice.{between-put_mid}
 use borrow.Rule.Slice.PartMut.{put_mid}
 use Rattle.bud_base.specs.Paths.{Joins}
 use Rattle.bud_base.specs.Orders.{IsCycle}
-use Rattle.bud_base.specs.Searches.{IsRing, HasRing, HasCycle, IsTurned}
+use Rattle.bud_base.specs.Rings.{IsRing, HasRing, HasCycle, IsTurned}
 use Rattle.bud_base.proofs.Joining.{Joins-turned}
 use Rattle.bud_base.specs.declared.ids.ItemId.{ItemId}
 use Rattle.bud_base.specs.declared.problems.Item.{Item}

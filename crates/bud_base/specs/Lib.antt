@@ -1,6 +1,7 @@
 pub mod Paths
 pub mod Orders
 pub mod OrderLists
+pub mod Rings
 pub mod Searches
 pub mod Arrivals
 pub mod Soundness

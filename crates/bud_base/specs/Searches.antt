@@ -1,8 +1,9 @@
 -- A search for an order of nodes: its marks, the places that it fills from the end, and its way.
-use Rattle.std.specs.Prelude.{◌≡◌, ℕ, ◌<◌, ◌≤◌, Bool, true, false, Option, Some, None, Result, Ok, Err, List, length, slice_index_or, slice_range, drop, take, ◌++◌, count_by}
-use Rattle.bud_base.specs.Paths.{Joins, item_at}
-use Rattle.bud_base.specs.Orders.{node_at, IsOrder, IsCycle}
+use Rattle.std.specs.Prelude.{◌≡◌, ℕ, ◌<◌, ◌≤◌, Bool, true, false, Option, Some, None, Result, Ok, Err, List, length, slice_index_or, take, count_by}
+use Rattle.bud_base.specs.Paths.{item_at}
+use Rattle.bud_base.specs.Orders.{node_at, IsOrder}
 use Rattle.bud_base.specs.Leaving.{leaving_from}
+use Rattle.bud_base.specs.Rings.{HasRing, HasCycle}
 use Rattle.bud_base.specs.declared.ids.NodeId.{NodeId}
 use Rattle.bud_base.specs.declared.ids.ItemId.{ItemId}
 use Rattle.bud_base.specs.declared.problems.Item.{Item}
@@ -78,16 +79,6 @@ pub record IsArranged (items : List Item) (marks : List Mark) (order : List Node
 abbrev pub NoneRenewed : List Mark → List Mark → Type 0
 NoneRenewed old new = (n : ℕ) → mark_at new n ≡ New → mark_at old n ≡ New
 
--- the items lead from a node back to it
-abbrev pub IsRing : List Item → List ItemId → Type 0
-IsRing items is = (node : ℕ) × Joins items node is node
-
--- some of these items lead from a node back to it
-pub record HasRing (items : List Item) (path : List ItemId) (ring : Span) : Type 0 where
-  pub some : ring.from < ring.to
-  pub within : ring.to ≤ length path
-  pub joined : IsRing items (slice_range path ring.from ring.to)
-
 pub record AreExplored (items : List Item) (old new : List Mark) (order : List NodeId) (root free : ℕ) : Type 0 where
   pub arranged : IsArranged items new order free
   pub kept : NoneRenewed old new
@@ -101,22 +92,6 @@ abbrev pub IsSearched : List Item → List NodeId → List ItemId → Option Spa
 IsSearched items order path None = IsOrder (length order) items order
 IsSearched items order path (Some ring) = HasRing items path ring
 
--- some of these items are a cycle
-pub record HasCycle (items : List Item) (path : List ItemId) (ring : Span) : Type 0 where
-  pub some : ring.from ≤ ring.to
-  pub within : ring.to ≤ length path
-  pub cycle : IsCycle items (slice_range path ring.from ring.to)
-
 abbrev pub IsFound : List Item → ℕ → List NodeId → List ItemId → Option Span → Type 0
 IsFound items nodes order path None = IsOrder nodes items (take nodes order)
 IsFound items nodes order path (Some ring) = HasCycle items path ring
-
-pub record IsLeastPlace (ring : List ItemId) (place : ℕ) : Type 0 where
-  pub within : place < length ring
-  pub least : (k : ℕ) → k < length ring → (slice_index_or ring place (record { 0 = 0 })).0 ≤ (slice_index_or ring k (record { 0 = 0 })).0
-
--- the list is turned so that its least number comes first
-pub record IsTurned (old new : List ItemId) : Type 0 where
-  pub place : ℕ
-  pub least : IsLeastPlace old place
-  pub turned : new ≡ drop place old ++ take place old

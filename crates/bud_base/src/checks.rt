@@ -1,7 +1,8 @@
 ghost use Rattle.std.specs.Prelude.{◌<◌, length, OnOk, IsOkUnless};
+ghost use Rattle.std.specs.Result.{IsErrOf};
 ghost use Rattle.bud_base.specs.Checking.{IsOrderAnswer};
 ghost use Rattle.bud_base.specs.Markings.{NamesOwnNodes};
-ghost use Rattle.bud_base.specs.Soundness.{IsListable, IsCheckAnswer, IsSound};
+ghost use Rattle.bud_base.specs.Soundness.{IsListable, IsCheckAnswer, IsInRange, IsSound};
 
 use crate::ids::{ItemId, NodeId};
 use crate::lists::Listed;
@@ -47,6 +48,7 @@ impl Problem {
         ensures first { IsCheckAnswer self.now result }
         ensures sound { OnOk result (IsSound self.now) }
         ensures refused { IsSound self.now → IsOkUnless result ProblemFault.NoMemory }
+        ensures memory { IsErrOf result ProblemFault.NoMemory → IsInRange self.now }
     {
         check_ranges(self)?;
         let order = find_order(self)?;

@@ -46,7 +46,8 @@ pub fn arrivals_bound_sums()
         → sum_along delay is ≤ℤ (arrival b -ℤ arrival a) }
 {}
 
-/// A path has at least the slack that arrivals leave at its end, and where they suit the delays it adds up to at most its room.
+/// A path has at least the slack that arrivals leave at its end. Where they suit the delays, it adds
+/// up to at most its room.
 pub fn arrivals_bound_paths()
     ensures slack { (p : Problem) (delay : ItemId → ℤ) (arrival : ℕ → ℤ) (path : Path)
         → FollowDelays p.items delay arrival → FollowStarts p.starts arrival → IsPath p path

@@ -11,10 +11,9 @@ mod orders;
 mod problems;
 mod ranges;
 mod steps;
-mod texts;
-
 #[cfg(test)]
 mod tests;
+mod texts;
 
 pub use checks::ProblemFault;
 pub use ids::{ArcId, ClassId, ItemId, NodeId, PinId};

@@ -1,4 +1,4 @@
-ghost use Rattle.std.specs.Prelude.{◌≡◌, ◌^◌, ◌<◌, ◌≤◌, ◌↔◌, IsTrue, length, All};
+ghost use Rattle.std.specs.Prelude.{◌≡◌, ◌^◌, ◌<◌, ◌↔◌, IsTrue, length, All};
 ghost use Rattle.bud_base.specs.Checking.{OrdersNodes, IsLiveAnswer};
 ghost use Rattle.bud_base.specs.Leaving.{AreLinks};
 ghost use Rattle.bud_base.specs.Markings.{Marks, NoneMarked, HasStart, HasEnd, HasItem, LeadsToMarked, NamesOwnNodes, AreReached, AreReaching, IsFirstUnmarked};
@@ -10,7 +10,10 @@ use crate::links::Links;
 use crate::orders::NodeOrder;
 use crate::problems::{End, Item, Problem, Start};
 
-/// Looks for the first node that no path passes: forwards from the starts in the order of the nodes, backwards from the ends against it.
+/// Looks for the first node that no path passes.
+///
+/// It marks nodes forwards from the starts, in the order of the nodes, and backwards from the ends,
+/// against it.
 pub fn check_live(problem: &Problem, order: &NodeOrder) -> Result<(), ProblemFault>
     requires names { NamesOwnNodes problem.now }
     requires order { OrdersNodes problem.now order.now }

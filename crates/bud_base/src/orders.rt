@@ -1,8 +1,9 @@
-ghost use Rattle.std.specs.Prelude.{◌≡◌, ◌^◌, ◌<◌, ◌≤◌, ◌↔◌, false, length, All, IsTrue, IfOk, slice_get, slice_index};
+ghost use Rattle.std.specs.Prelude.{◌≡◌, ◌^◌, ◌<◌, ◌≤◌, ◌↔◌, false, length, All, IsTrue, IfOk};
 ghost use Rattle.bud_base.specs.Leaving.{AreLinks};
 ghost use Rattle.bud_base.specs.OrderLists.{node_room, item_room, FitsRoom, KeepsRoom};
 ghost use Rattle.bud_base.specs.Orders.{IsWithinNodes, IsOrder, IsCycle};
-ghost use Rattle.bud_base.specs.Searches.{mark_at, AreNew, IsTop, IsStep, IsArranged, IsExplored, IsSearched, IsFound, IsLeastPlace, IsTurned};
+ghost use Rattle.bud_base.specs.Rings.{IsLeastPlace, IsTurned};
+ghost use Rattle.bud_base.specs.Searches.{mark_at, AreNew, IsTop, IsStep, IsArranged, IsExplored, IsSearched, IsFound};
 
 use crate::ids::{ItemId, NodeId};
 use crate::links::Links;
@@ -63,9 +64,18 @@ impl Model for NodeOrder {
 
     ghost Value = { OrderLists };
 
-    ghost view = { λ o. record { order = take o.nodes o.order.items; links = o.links; cycle = slice_range o.path.items o.ring.from o.ring.to } };
+    ghost view = { λ o. record {
+      order = take o.nodes o.order.items;
+      links = o.links;
+      cycle = slice_range o.path.items o.ring.from o.ring.to;
+    } };
 
-    ghost invariant = { λ o. (length o.marks.items ≡ length o.links.first) × (length o.order.items ≡ length o.links.first) × (length o.path.items ≡ length o.links.first) × (o.nodes ≤ length o.links.first) × (o.ring.from ≤ o.ring.to) × (o.ring.to ≤ length o.links.first) };
+    ghost invariant = { λ o. (length o.marks.items ≡ length o.links.first)
+        × (length o.order.items ≡ length o.links.first)
+        × (length o.path.items ≡ length o.links.first)
+        × (o.nodes ≤ length o.links.first)
+        × (o.ring.from ≤ o.ring.to)
+        × (o.ring.to ≤ length o.links.first) };
 }
 
 impl NodeOrder {
@@ -96,9 +106,9 @@ impl NodeOrder {
         self.links.fits(nodes, items)
     }
 
-    /// Looks for an order of the nodes that every item follows; where there is none, for a ring of items.
+    /// Looks for an order of the nodes that every item follows; where there is none, for a ring.
     ///
-    /// It takes time linear in the room for nodes and the items.
+    /// It takes time linear in the room for nodes and the items, and no memory.
     pub fn find(&mut self, nodes: u32, items: &[Item]) -> bool
         requires room { FitsRoom self.old nodes (length items.now) }
         requires small { length items.now < 2147483648 }
@@ -298,7 +308,9 @@ fn turn(ring: &mut [ItemId])
     ring.rotate_left(place);
 }
 
-/// Arranges this many nodes at the beginning of the order, or answers where a ring that begins with its least item number stands on the way.
+/// Arranges this many nodes at the beginning of the order, or answers where a ring stands on the way.
+///
+/// The ring begins with its least item number.
 fn search(
     items: &[Item],
     links: &Links,

@@ -60,8 +60,20 @@ fn checks_problems(rt: HostRuntime) -> Result<(), Fail> {
     let s = [start(0, 0)];
     let e = [end(1, 0)];
     let cases: [(u32, &[Item], &[Start], &[End], &str); 14] = [
-        (2, &ring, &s, &e, "Err(Cycle(Listed { vec: [ItemId(0), ItemId(1)] }))"),
-        (3, &turned, &s, &e, "Err(Cycle(Listed { vec: [ItemId(0), ItemId(2), ItemId(1)] }))"),
+        (
+            2,
+            &ring,
+            &s,
+            &e,
+            "Err(Cycle(Listed { vec: [ItemId(0), ItemId(1)] }))",
+        ),
+        (
+            3,
+            &turned,
+            &s,
+            &e,
+            "Err(Cycle(Listed { vec: [ItemId(0), ItemId(2), ItemId(1)] }))",
+        ),
         (1, &[], &[], &[end(0, 0)], "Err(Dead(NodeId(0)))"),
         (1, &[], &s, &[], "Err(Dead(NodeId(0)))"),
         (3, &fork, &s, &e, "Err(Dead(NodeId(2)))"),
@@ -71,7 +83,13 @@ fn checks_problems(rt: HostRuntime) -> Result<(), Fail> {
         (1, &ring, &s, &e, "Err(BadNode(1))"),
         (2, &ring, &[start(3, 0)], &[end(2, 0)], "Err(BadNode(3))"),
         (2, &[item(0, 1, -1)], &s, &e, "Err(BadBounds(ItemId(0)))"),
-        (2, &ring, &[start(0, late)], &[end(1, -late)], "Err(BadTime(NodeId(0)))"),
+        (
+            2,
+            &ring,
+            &[start(0, late)],
+            &[end(1, -late)],
+            "Err(BadTime(NodeId(0)))",
+        ),
         (2, &ring, &s, &[end(1, -late)], "Err(BadTime(NodeId(1)))"),
         (8_388_609, &[], &[], &[], "Err(TooLarge(8388609))"),
     ];

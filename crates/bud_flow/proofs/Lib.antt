@@ -1,4 +1,3 @@
 pub mod Ints
 pub mod SumLemmas
 pub mod Exchange
-pub mod ArrivalLemmas

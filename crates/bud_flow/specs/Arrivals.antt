@@ -1,5 +1,6 @@
--- Arrivals at the nodes that suit delays of the items.
-use Rattle.std.specs.Prelude.{ℕ, ℤ, ◌+ℤ◌, ◌≤ℤ◌, ◌<◌, length}
+-- When arrivals at the nodes suit delays, item by item, start by start and end by end.
+use Rattle.std.specs.Prelude.{ℕ, ℤ, ◌+ℤ◌, ◌≤ℤ◌}
+use Rattle.bud_base.specs.Arrivals.{AreSuiting}
 use Rattle.bud_base.specs.Paths.{item_at, start_at, end_at}
 use Rattle.bud_base.specs.declared.ids.ItemId.{ItemId}
 use Rattle.bud_base.specs.declared.problems.Problem.{Problem}
@@ -16,8 +17,6 @@ SuitsStart p arrival s = (start_at p.starts s).offset ≤ℤ arrival (start_at p
 abbrev pub SuitsEnd : Problem → (ℕ → ℤ) → ℕ → Type 0
 SuitsEnd p arrival e = arrival (end_at p.ends e).node.0 ≤ℤ (end_at p.ends e).require
 
--- the arrivals suit these delays of the items, the offsets and the required times
-pub record Suit (p : Problem) (delay : ItemId → ℤ) (arrival : ℕ → ℤ) : Type 0 where
-  pub items : (i : ℕ) → i < length p.items → SuitsItem p delay arrival i
-  pub starts : (s : ℕ) → s < length p.starts → SuitsStart p arrival s
-  pub ends : (e : ℕ) → e < length p.ends → SuitsEnd p arrival e
+-- all of them suit
+abbrev pub Suit : Problem → (ItemId → ℤ) → (ℕ → ℤ) → Type 0
+Suit p delay arrival = AreSuiting p delay arrival

@@ -3,4 +3,4 @@
 
 mod laws;
 
-pub use laws::{exchange_of_sums, suited_delays_fit};
+pub use laws::exchange_of_sums;

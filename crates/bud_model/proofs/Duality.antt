@@ -11,10 +11,11 @@ use Rattle.bud_base.specs.declared.problems.Item.{Item}
 use Rattle.bud_base.specs.declared.problems.Problem.{Problem}
 use Rattle.bud_flow.specs.Sums.{sum_below, number_at}
 use Rattle.bud_flow.specs.Flows.{Flow, StandsAtNodes, IsBalanced, item_value, value_of}
-use Rattle.bud_flow.specs.Arrivals.{Suit}
+use Rattle.bud_base.specs.Arrivals.{AreSuiting}
 use Rattle.bud_flow.proofs.Ints.{mul-le, sub-mul}
 use Rattle.bud_flow.proofs.SumLemmas.{sum_below-le, sum_below-add}
-use Rattle.bud_flow.proofs.ArrivalLemmas.{sum_along-room}
+use Rattle.bud_base.proofs.Joining.{Joins-append}
+use Rattle.bud_base.proofs.Sums.{sum_along-append, sum_along-le_room}
 use Rattle.bud_flow.proofs.Exchange.{StandsAtNodes-from_sound, gain_of-kept}
 use Rattle.bud_model.specs.Plans.{IsHolding, flow_of}
 use Rattle.bud_model.specs.declared.plans.Plan.{Plan}
@@ -22,16 +23,6 @@ use Rattle.bud_model.specs.Budgets.{AreWithinBounds, Fit, AreBest, weight_of, bu
 use Rattle.bud_model.proofs.Greatest.{IsGreatest, IsGreatest-exists, IsGreatest-each}
 
 -- ---- items one after another
-Joins-append : (items : List Item) (a : ℕ) (is : List ItemId) (b : ℕ) (js : List ItemId) (c : ℕ)
-    → Joins items a is b → Joins items b js c → Joins items a (is ++ js) c
-Joins-append items a [] b js c first second = rw first second
-Joins-append items a (i ∷ is) b js c first second =
-    (first.0, first.1, Joins-append items (item_at items i.0).to.0 is b js c first.2 second)
-
-sum_along-append : (delay : ItemId → ℤ) (is js : List ItemId) → sum_along delay (is ++ js) ≡ sum_along delay is +ℤ sum_along delay js
-sum_along-append delay [] js = omega (arith, ints)
-sum_along-append delay (i ∷ is) js = omega (arith, ints, sum_along-append delay is js)
-
 -- delays of at least 0 add up to at least 0
 sum_along-positive : (items : List Item) (delay : ItemId → ℤ) → ((i : ItemId) → i.0 < length items → pos 0 ≤ℤ delay i)
     → (a : ℕ) (is : List ItemId) (b : ℕ) → Joins items a is b → pos 0 ≤ℤ sum_along delay is
@@ -65,7 +56,7 @@ module _ (p : Problem) (budgets : List ℤ) (sound : IsSound p) (fit : Fit p bud
             (record {
               start = arrives.within;
               end = on.within;
-              joined = Joins-append p.items (start_at p.starts arrives.start).node.0 arrives.items node on.items (end_at p.ends on.end).node.0 arrives.joined on.joined;
+              joined = Joins-append p.items arrives.items on.items (start_at p.starts arrives.start).node.0 node (end_at p.ends on.end).node.0 arrives.joined on.joined;
             }),
       )
 
@@ -78,8 +69,8 @@ module _ (p : Problem) (budgets : List ℤ) (sound : IsSound p) (fit : Fit p bud
       (λ time arrives. Arrives-bound node time arrives live.1) none
 
   -- the greatest times of arrival suit the budgets
-  Suit-greatest : (a : ℕ → ℤ) → ((v : ℕ) → v < p.nodes → IsGreatest (Arrives p budgets v) (a v)) → Suit p (budget_in budgets) a
-  Suit-greatest a greatest =
+  AreSuiting-greatest : (a : ℕ → ℤ) → ((v : ℕ) → v < p.nodes → IsGreatest (Arrives p budgets v) (a v)) → AreSuiting p (budget_in budgets) a
+  AreSuiting-greatest a greatest =
       let stands : StandsAtNodes p = StandsAtNodes-from_sound p sound in
       record {
         items = λ i within.
@@ -88,7 +79,7 @@ module _ (p : Problem) (budgets : List ℤ) (sound : IsSound p) (fit : Fit p bud
               start = before.start;
               items = before.items ++ record { 0 = i } ∷ [];
               within = before.within;
-              joined = Joins-append p.items (start_at p.starts before.start).node.0 before.items (item_at p.items i).from.0 (record { 0 = i } ∷ []) (item_at p.items i).to.0 before.joined (within, refl, refl);
+              joined = Joins-append p.items before.items (record { 0 = i } ∷ []) (start_at p.starts before.start).node.0 (item_at p.items i).from.0 (item_at p.items i).to.0 before.joined (within, refl, refl);
               sum = omega (arith, ints, before.sum, sum_along-append (budget_in budgets) before.items (record { 0 = i } ∷ []));
             });
         starts = λ s within. (greatest (start_at p.starts s).node.0 (stands.starts s within)).most (start_at p.starts s).offset
@@ -98,9 +89,9 @@ module _ (p : Problem) (budgets : List ℤ) (sound : IsSound p) (fit : Fit p bud
       }
 
   -- so arrivals that suit the budgets aren't wanting
-  Suit-exists : ((a : ℕ → ℤ) → Suit p (budget_in budgets) a → ⊥) → ⊥
-  Suit-exists none =
-      IsGreatest-each (Arrives p budgets) p.nodes (λ v below. Arrives-greatest v (sound.live v below)) (λ a greatest. none a (Suit-greatest a greatest))
+  AreSuiting-exists : ((a : ℕ → ℤ) → AreSuiting p (budget_in budgets) a → ⊥) → ⊥
+  AreSuiting-exists none =
+      IsGreatest-each (Arrives p budgets) p.nodes (λ v below. Arrives-greatest v (sound.live v below)) (λ a greatest. none a (AreSuiting-greatest a greatest))
 
 -- ---- weight against value, with arrivals between
 -- an item's weight times its budget is at most its value and what flow times budget comes to
@@ -123,7 +114,7 @@ item_value-le x f b low high = elim (cases_Bool (int_lt f (pos x.weight))) [
 ]
 
 module _ (p : Problem) (budgets : List ℤ) (flow : Flow) (a : ℕ → ℤ) (sound : IsSound p) (bounds : AreWithinBounds p budgets)
-    (suit : Suit p (budget_in budgets) a) (balanced : IsBalanced p flow) where
+    (suit : AreSuiting p (budget_in budgets) a) (balanced : IsBalanced p flow) where
   weight_of-le : weight_of p budgets ≤ℤ value_of p flow
   weight_of-le =
       let stands : StandsAtNodes p = StandsAtNodes-from_sound p sound in
@@ -151,7 +142,7 @@ module _ (p : Problem) (budgets : List ℤ) (flow : Flow) (a : ℕ → ℤ) (sou
 pub weight_of-value : (p : Problem) (budgets : List ℤ) (flow : Flow) → IsSound p → Fit p budgets → IsBalanced p flow → weight_of p budgets ≤ℤ value_of p flow
 weight_of-value p budgets flow sound fit balanced =
     by_lt_z (value_of p flow) (weight_of p budgets)
-    (λ above. absurd (Suit-exists p budgets sound fit (λ a suit.
+    (λ above. absurd (AreSuiting-exists p budgets sound fit (λ a suit.
     let within : weight_of p budgets ≤ℤ value_of p flow = weight_of-le p budgets flow a sound fit.bounds suit balanced in omega (arith, ints))))
     (λ within. within)
 
@@ -159,7 +150,7 @@ weight_of-value p budgets flow sound fit balanced =
 pub Fit-from_arrivals : (p : Problem) (budgets arrivals : List ℤ) → AreWithinBounds p budgets → SuitBudgets p budgets arrivals → Fit p budgets
 Fit-from_arrivals p budgets arrivals bounds suits = record {
   bounds = bounds;
-  paths = sum_along-room p (budget_in budgets) (number_at arrivals) suits.suit;
+  paths = λ path is. sum_along-le_room p (budget_in budgets) (number_at arrivals) path suits.suit is;
 }
 
 -- the budgets of a plan that holds are best

@@ -1,10 +1,10 @@
 -- Budgets of a problem: when they fit, what they weigh, and when they are best.
 use Rattle.std.specs.Prelude.{◌≡◌, ℕ, ℤ, pos, ◌*ℤ◌, ◌≤ℤ◌, ◌<◌, List, length}
+use Rattle.bud_base.specs.Arrivals.{AreSuiting}
 use Rattle.bud_base.specs.Paths.{Path, IsPath, sum_along, room, item_at}
 use Rattle.bud_base.specs.declared.ids.ItemId.{ItemId}
 use Rattle.bud_base.specs.declared.problems.Problem.{Problem}
 use Rattle.bud_flow.specs.Sums.{sum_below, number_at}
-use Rattle.bud_flow.specs.Arrivals.{Suit}
 
 -- the budget of an item
 abbrev pub budget_in : List ℤ → ItemId → ℤ
@@ -37,4 +37,4 @@ pub record AreBest (p : Problem) (budgets : List ℤ) : Type 0 where
 -- there is one arrival for each node, and they suit the budgets
 pub record SuitBudgets (p : Problem) (budgets arrivals : List ℤ) : Type 0 where
   pub size : length arrivals ≡ p.nodes
-  pub suit : Suit p (budget_in budgets) (number_at arrivals)
+  pub suit : AreSuiting p (budget_in budgets) (number_at arrivals)

@@ -3,6 +3,8 @@
 
 mod disk;
 mod printed;
+#[cfg(test)]
+mod tests;
 
 use bud_shelf::Sink;
 use budget_top::run_budget;

@@ -18,6 +18,10 @@ use Rattle.budget_top.specs.Faults.{fault_line, length_line, refused_line}
 abbrev pub Reader : Type 0 → Type 1
 Reader V = List ℕ → Result V TextFault → Type 0
 
+-- the file of this name holds exactly these bytes, and no more than a shelf reads
+abbrev pub IsWhole : Option Files → List ℕ → List ℕ → Type 0
+IsWhole files name bytes = IsFile files name bytes × (length bytes ≤ LONGEST_FILE)
+
 -- a file that can't be read: it is missing or the count of faults rose, or it is too long
 abbrev pub IsUnread : Option Files → ℕ → ℕ → List ℕ → Status → List ℕ → Type 0
 IsUnread files before now name Fault text = (IsMissing files name before now ⊎ Rose before now) × (text ≡ fault_line name)
@@ -38,18 +42,18 @@ IsUnreadable reads name bytes _ text = ⊥
 -- the file can't be read, or its bytes have no reading
 abbrev pub IsRefusedInput : {V : Type 0} → Reader V → Option Files → ℕ → ℕ → List ℕ → Status → List ℕ → Type 0
 IsRefusedInput reads files before now name status text =
-    IsUnread files before now name status text ⊎ ((bytes : List ℕ) × (IsFile files name bytes × IsUnreadable reads name bytes status text))
+    IsUnread files before now name status text ⊎ ((bytes : List ℕ) × (IsWhole files name bytes × IsUnreadable reads name bytes status text))
 
 -- the file's bytes read as the value
 abbrev pub Holds : {V : Type 0} → Reader V → Option Files → List ℕ → V → Type 0
-Holds reads files name value = (bytes : List ℕ) × (IsFile files name bytes × reads bytes (Ok value))
+Holds reads files name value = (bytes : List ℕ) × (IsWhole files name bytes × reads bytes (Ok value))
 
 abbrev pub IsLoaded : {V : Type 0} → Reader V → Option Files → ℕ → ℕ → List ℕ → Loaded V → Type 0
 IsLoaded reads files before now name (Value value) = Holds reads files name value
 IsLoaded reads files before now name (NoValue reply) = IsRefusedInput reads files before now name reply.status (string_bytes reply.text)
 
 abbrev pub IsFileAnswer : Option Files → ℕ → ℕ → List ℕ → Loaded (Vec ℕ Global) → Type 0
-IsFileAnswer files before now name (Value bytes) = IsFile files name bytes.items × (length bytes.items ≤ LONGEST_FILE)
+IsFileAnswer files before now name (Value bytes) = IsWhole files name bytes.items
 IsFileAnswer files before now name (NoValue reply) = IsUnread files before now name reply.status (string_bytes reply.text)
 
 abbrev pub IsParsed : {V : Type 0} → Reader V → List ℕ → List ℕ → Loaded V → Type 0

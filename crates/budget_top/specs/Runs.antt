@@ -1,6 +1,6 @@
 -- A whole run: the words, the job's reply, and the sink.
 use Rattle.std.specs.Prelude.{◌≡◌, ◌⊎◌, ℕ, List, Option, Some, None, Result, Ok, Err}
-use Rattle.bud_shelf.specs.Outside.{Files, IsPutAnswer, IsAppended}
+use Rattle.bud_shelf.specs.Outside.{Files, Rose, IsPutAnswer, IsAppended}
 use Rattle.bud_shelf.specs.declared.sinks.SinkFault.{SinkFault}
 use Rattle.bud_shelf.specs.declared.sinks.SinkFault.TheVariants.{Failed, NoMemory}
 use Rattle.budget_top.specs.declared.status.Status.{Status}
@@ -38,3 +38,13 @@ IsRun job files before now old new put_before put_now number =
 -- the job ends so, and the sink took its text whole
 abbrev pub Ends : Option Asked → Option Files → ℕ → ℕ → Option (List ℕ) → Option (List ℕ) → Status → Type 0
 Ends job files before now old new status = (text : List ℕ) × (IsOutcome job files before now status text × IsAppended old new text)
+
+-- a shelf that tells its files calls for this status
+abbrev pub CallsFor : Option Asked → Option Files → Status → Type 0
+CallsFor job (Some files) status = (text : List ℕ) × IsOutcome job (Some files) 0 0 status text
+CallsFor job None status = ⊥
+
+-- the number is that of the status, unless memory was wanting or a count of faults rose
+abbrev pub IsCalled : ℕ → ℕ → ℕ → ℕ → Status → ℕ → Type 0
+IsCalled before now put_before put_now status number =
+    (number ≡ code_of status) ⊎ ((number ≡ code_of Memory) ⊎ (Rose before now ⊎ Rose put_before put_now))

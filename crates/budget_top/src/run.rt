@@ -1,8 +1,9 @@
 ghost use Rattle.std.specs.Prelude.{◌≡◌, ◌≤◌, ◌⊎◌, None, IfOk, map, string_bytes};
 ghost use Rattle.bud_shelf.specs.Outside.{Rose, IsPutAnswer};
 ghost use Rattle.budget_top.specs.Words.{job_of, asked};
-ghost use Rattle.budget_top.specs.Runs.{IsRun, IsReply, IsPrinted, Ends};
+ghost use Rattle.budget_top.specs.Runs.{IsRun, IsReply, IsPrinted, Ends, CallsFor, IsCalled};
 ghost use Rattle.budget_top.specs.Codes.{code_of};
+ghost use Rattle.budget_top.specs.declared.status.Status.{Status};
 ghost use Rattle.budget_top.specs.declared.status.Status.TheVariants.{Done, Violated, Words, Fault, Refused, Design, Limit};
 
 use crate::raw::raw;
@@ -29,11 +30,23 @@ pub fn run_budget<S: Shelf, K: Sink>(
     ensures done { result ≡ 0 → Ends (job_of (map string_bytes words.now)) (S.files shelf.old) (S.faults shelf.old) (S.faults shelf.new) (K.taken out.old) (K.taken out.new) Done }
     ensures violated { result ≡ 1 → Ends (job_of (map string_bytes words.now)) (S.files shelf.old) (S.faults shelf.old) (S.faults shelf.new) (K.taken out.old) (K.taken out.new) Violated }
     ensures words { result ≡ 2 → job_of (map string_bytes words.now) ≡ None }
+    ensures misfit { job_of (map string_bytes words.now) ≡ None → IsCalled (S.faults shelf.old) (S.faults shelf.new) (K.faults out.old) (K.faults out.new) Words result }
     ensures fault { result ≡ 3 → Rose (K.faults out.old) (K.faults out.new) ⊎ Ends (job_of (map string_bytes words.now)) (S.files shelf.old) (S.faults shelf.old) (S.faults shelf.new) (K.taken out.old) (K.taken out.new) Fault }
     ensures refused { result ≡ 4 → Ends (job_of (map string_bytes words.now)) (S.files shelf.old) (S.faults shelf.old) (S.faults shelf.new) (K.taken out.old) (K.taken out.new) Refused }
     ensures design { result ≡ 5 → Ends (job_of (map string_bytes words.now)) (S.files shelf.old) (S.faults shelf.old) (S.faults shelf.new) (K.taken out.old) (K.taken out.new) Design }
     ensures limit { result ≡ 6 → Ends (job_of (map string_bytes words.now)) (S.files shelf.old) (S.faults shelf.old) (S.faults shelf.new) (K.taken out.old) (K.taken out.new) Limit }
     ensures range { result ≤ 8 }
+
+    // A shelf that tells its files calls for one status, and no other comes unless memory is wanting or a count rises.
+    ensures exact { (status : Status) → CallsFor (job_of (map string_bytes words.now)) (S.files shelf.old) status → IsCalled (S.faults shelf.old) (S.faults shelf.new) (K.faults out.old) (K.faults out.new) status result }
+{
+    answer(alloc, words, shelf, out)
+}
+
+/// Does the job and prints its reply.
+fn answer<S: Shelf, K: Sink>(alloc: Global, words: &[String], shelf: &mut S, out: &mut K) -> u8
+    ensures run { IsRun (job_of (map string_bytes words.now)) (S.files shelf.old) (S.faults shelf.old) (S.faults shelf.new) (K.taken out.old) (K.taken out.new) (K.faults out.old) (K.faults out.new) result }
+    ensures files { S.files shelf.new ≡ S.files shelf.old }
 {
     match asked_job(words) {
         None => print(out, Status::Words, b"words\n"),

@@ -1,5 +1,5 @@
 use crate::run_budget;
-use bud_shelf::{SafeShelf, SafeSink};
+use bud_shelf::{LONGEST_FILE, MemShelf, MemSink, SafeShelf, SafeSink};
 use std::alloc::{AllocError, Global};
 use std::test::Fail;
 
@@ -99,5 +99,23 @@ fn words_and_missing_files_are_named(rt: HostRuntime) -> Result<(), Fail> {
         assert_eq!(rt; answer, status);
         assert_eq!(rt; printed.as_str(), text);
     }
+    Ok(())
+}
+
+#[test]
+fn failing_calls_and_long_files_are_named(rt: HostRuntime) -> Result<(), Fail> {
+    let mut shelf = MemShelf::new(rt.alloc());
+    shelf.add("p", b"problem 1\nnodes 0\n")?;
+    shelf.add_long("v", LONGEST_FILE + 1)?;
+    shelf.fail_at(2)?;
+    let mut sink = MemSink::new(rt.alloc());
+    sink.fail_at(4)?;
+    for (name, status) in [("p", 0), ("p", 3), ("v", 6), ("p", 3)] {
+        let words = owned(rt.alloc(), &["raw", name])?;
+        let answer = run_budget(rt.alloc(), words.as_slice(), &mut shelf, &mut sink);
+        assert_eq!(rt; answer, status);
+    }
+    let printed = str::from_utf8(sink.bytes())?;
+    assert!(rt; printed.starts_with("no paths\nfault p\nlimit v 268435457\n"));
     Ok(())
 }

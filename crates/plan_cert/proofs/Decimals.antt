@@ -16,16 +16,18 @@ digit-mod n small = omega arith
 pub decimal_one : (name front : List ℕ) (last n : ℕ) → n < 10 → name ≡ front ++ last ∷ [] → last ≡ 48 + n % 10
     → (front ≡ [] → name ≡ decimal n) × (name ≡ decimal n → front ≡ [])
 decimal_one name front last n small parts digit =
-    let ends : last ≡ 48 + n = omega (arith, digit-mod n small) in
-    (λ empty. parts ∙ rw (empty, ends) (sym (decimal_digit n small)),
-     λ is. (same_from_push front [] last (48 + n) (sym parts ∙ is ∙ decimal_digit n small)).0)
+    let ends : last ≡ 48 + n = omega (arith, digit-mod n small) in (
+      λ empty. parts ∙ rw (empty, ends) (sym (decimal_digit n small)),
+      λ is. (same_from_push front [] last (48 + n) (sym parts ∙ is ∙ decimal_digit n small)).0,
+    )
 
 -- several digits
 pub decimal_more : (name front : List ℕ) (last n : ℕ) → 10 ≤ n → n < 2 ^ 64 → name ≡ front ++ last ∷ [] → last ≡ 48 + n % 10
     → (front ≡ decimal (n / 10) → name ≡ decimal n) × (name ≡ decimal n → front ≡ decimal (n / 10))
-decimal_more name front last n large small parts digit =
-    (λ is. parts ∙ rw (is, digit) (sym (decimal_step n large small)),
-     λ is. (same_from_push front (decimal (n / 10)) last (48 + n % 10) (sym parts ∙ is ∙ decimal_step n large small)).0)
+decimal_more name front last n large small parts digit = (
+  λ is. parts ∙ rw (is, digit) (sym (decimal_step n large small)),
+  λ is. (same_from_push front (decimal (n / 10)) last (48 + n % 10) (sym parts ∙ is ∙ decimal_step n large small)).0,
+)
 
 -- another last digit
 pub decimal_other : (name front : List ℕ) (last n : ℕ) → n < 2 ^ 64 → name ≡ front ++ last ∷ [] → last ≢ 48 + n % 10 → name ≡ decimal n → ⊥

@@ -1,6 +1,6 @@
 -- First failures of facts that say the same.
-use Rattle.std.proofs.Common.{◌≡◌, ℕ, ◌<◌, Option, Some, None, arith}
-use Rattle.plan_cert.specs.Failures.{AllBelow, IsFirstFailure, IsFailure}
+use Rattle.std.proofs.Common.{ℕ, ◌<◌, Option, Some, None, arith}
+use Rattle.plan_cert.specs.Failures.{IsFailure}
 
 pub IsFailure-same : (P Q : ℕ → Type 0) (count : ℕ) (r : Option ℕ) → ((k : ℕ) → k < count → (P k → Q k) × (Q k → P k)) → IsFailure P count r → IsFailure Q count r
 IsFailure-same P Q count None same holds = λ k within. (same k within).0 (holds k within)

@@ -3,3 +3,4 @@ pub mod LineNumbers
 pub mod NodeSumLemmas
 pub mod FailureLemmas
 pub mod TotalLemmas
+pub mod HoldingLemmas

@@ -1,5 +1,5 @@
 -- The numbers of the lines.
-use Rattle.std.proofs.Common.{◌≡◌, ℕ, ℤ, ◌<◌, List, length, map, arith, subst, sym}
+use Rattle.std.proofs.Common.{◌≡◌, ℕ, ℤ, ◌<◌, List, length, map, subst, sym}
 use Rattle.std.specs.Prelude.{All, pos}
 use Rattle.std.proofs.lemmas.List.{length-map}
 use Rattle.bud_flow.specs.Sums.{number_at}

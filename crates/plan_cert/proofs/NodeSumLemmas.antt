@@ -1,5 +1,5 @@
 -- Running sums at the nodes.
-use Rattle.std.proofs.Common.{◌≡◌, ◌==◌, ◌≢◌, Option, Bool, true, false, ℕ, zero, suc, ℤ, pos, ◌+ℤ◌, ◌-ℤ◌, ◌≤ℤ◌, ◌+◌, ◌*◌, ◌<◌, ◌≤◌, List, length, set, cond, arith, refl, ap, sym, subst, ◌∙◌, inl, inr, add-one, eq-eqb, get_or-set_same, get_or-set_other}
+use Rattle.std.proofs.Common.{◌≡◌, ◌==◌, Option, Bool, true, false, ℕ, zero, suc, ℤ, pos, ◌+ℤ◌, ◌-ℤ◌, ◌≤ℤ◌, ◌+◌, ◌*◌, ◌<◌, ◌≤◌, List, length, set, cond, arith, refl, sym, subst, ◌∙◌, inl, inr, add-one, eq-eqb, get_or-set_same, get_or-set_other}
 use Rattle.std.proofs.lemmas.Bool.{cases_eq, cases_Bool, ne_eqb}
 use Rattle.std.proofs.lemmas.Int.{ints}
 use Rattle.bud_base.specs.Paths.{item_at, start_at, end_at}
@@ -143,5 +143,5 @@ pub IsFailure-kept : (p : Problem) (plan : Plan) (sums : List ℤ) (r : Option �
     → IsFailure (λ node. number_at sums node ≡ pos 0) (length sums) r → IsFailure (IsKeptAt p plan) p.nodes r
 IsFailure-kept p plan sums r are first =
     IsFailure-same (λ node. number_at sums node ≡ pos 0) (IsKeptAt p plan) p.nodes r
-      (λ v below. (λ zero. (excess_sum-kept p plan v).0 (sym (are.each v below) ∙ zero), λ kept. are.each v below ∙ (excess_sum-kept p plan v).1 kept))
-      (subst (λ n. IsFailure (λ node. number_at sums node ≡ pos 0) n r) are.size first)
+    (λ v below. (λ zero. (excess_sum-kept p plan v).0 (sym (are.each v below) ∙ zero), λ kept. are.each v below ∙ (excess_sum-kept p plan v).1 kept))
+    (subst (λ n. IsFailure (λ node. number_at sums node ≡ pos 0) n r) are.size first)

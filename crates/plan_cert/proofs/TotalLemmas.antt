@@ -1,11 +1,10 @@
 -- Sums of products.
-use Rattle.std.proofs.Common.{◌≡◌, ℕ, suc, inl, inr, ℤ, pos, negsuc, ◌+ℤ◌, ◌-ℤ◌, ◌*ℤ◌, ◌≤ℤ◌, ◌+◌, ◌*◌, ◌≤◌, arith, ap, sym, subst, ◌∙◌, add-one, mul-le-mul_left, mul-le-mul_right}
+use Rattle.std.proofs.Common.{◌≡◌, ℕ, suc, inl, inr, ℤ, pos, negsuc, ◌+ℤ◌, ◌-ℤ◌, ◌*ℤ◌, ◌≤ℤ◌, ◌+◌, ◌*◌, ◌≤◌, arith, ap, ◌∙◌, mul-le-mul_left, mul-le-mul_right}
 use Rattle.std.proofs.lemmas.Int.{ints}
 use Rattle.std.proofs.lemmas.Bool.{cases_Bool}
 use Rattle.std.specs.Prelude.{int_lt}
 use Rattle.bud_base.specs.declared.problems.Item.{Item}
 use Rattle.bud_flow.specs.Flows.{item_value}
-use borrow.Author.Differences.{up, down}
 use Rattle.bud_flow.proofs.SumLemmas.{sum_below-more}
 use Rattle.plan_cert.specs.Totals.{IsFactor, IsProduct, IsTotal}
 

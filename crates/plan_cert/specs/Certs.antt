@@ -1,7 +1,7 @@
 -- The numbers of a certificate.
 use Rattle.std.specs.Prelude.{map}
 use Rattle.bud_model.specs.declared.plans.Plan.{Plan}
-use Rattle.plan_cert.specs.declared.certs.Cert.{Cert}
+use Rattle.cert_text.specs.declared.certs.Cert.{Cert}
 
 -- the plan that the lines write
 abbrev pub plan_in : Cert → Plan

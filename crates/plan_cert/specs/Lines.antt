@@ -5,9 +5,9 @@ use Rattle.bud_base.specs.Paths.{item_at, start_at, end_at}
 use Rattle.bud_base.specs.declared.problems.Item.{Item}
 use Rattle.bud_base.specs.declared.problems.Start.{Start}
 use Rattle.bud_base.specs.declared.problems.End.{End}
-use Rattle.plan_cert.specs.declared.certs.CertNode.{CertNode}
-use Rattle.plan_cert.specs.declared.certs.CertItem.{CertItem}
-use Rattle.plan_cert.specs.declared.certs.CertFlow.{CertFlow}
+use Rattle.cert_text.specs.declared.certs.CertNode.{CertNode}
+use Rattle.cert_text.specs.declared.certs.CertItem.{CertItem}
+use Rattle.cert_text.specs.declared.certs.CertFlow.{CertFlow}
 
 -- lines without names, whose numbers are 0
 abbrev pub no_node : CertNode

@@ -2,7 +2,7 @@
 use Rattle.std.specs.Prelude.{◌≡◌, ◌≢◌, ℕ, ℤ, ◌⊎◌, [], length, min}
 use Rattle.bud_base.specs.declared.problems.Problem.{Problem}
 use Rattle.bud_flow.specs.Sums.{number_at}
-use Rattle.bud_flow.specs.Flows.{Flow, IsNonNegative, IsBalanced, flow_into, flow_out_of, value_of}
+use Rattle.bud_flow.specs.Flows.{IsNonNegative, IsBalanced, flow_into, flow_out_of, value_of}
 use Rattle.bud_flow.specs.Arrivals.{SuitsItem, SuitsStart, SuitsEnd}
 use Rattle.bud_model.specs.Budgets.{IsWithinBounds, AreWithinBounds, SuitBudgets, budget_in, weight_of}
 use Rattle.bud_model.specs.Plans.{IsHolding, flow_of}
@@ -10,7 +10,7 @@ use Rattle.bud_model.specs.declared.plans.Plan.{Plan}
 use Rattle.plan_cert.specs.Lines.{IsNodeLine, IsItemLine, IsStartLine, IsEndLine}
 use Rattle.plan_cert.specs.Failures.{AllBelow, IsFirstFailure}
 use Rattle.plan_cert.specs.Certs.{plan_in}
-use Rattle.plan_cert.specs.declared.certs.Cert.{Cert}
+use Rattle.cert_text.specs.declared.certs.Cert.{Cert}
 use Rattle.plan_cert.specs.declared.answers.CertAnswer.{CertAnswer}
 use Rattle.plan_cert.specs.declared.answers.CertAnswer.TheVariants.{Holds, Fault}
 use Rattle.plan_cert.specs.declared.answers.CertFault.{CertFault}
@@ -128,18 +128,27 @@ IsWrongNumber p plan (Weight weight other) =
     AreWithinBounds p plan.budgets × SuitBudgets p plan.budgets plan.arrivals × IsBalanced p (flow_of plan)
     × IsWrongWeight p plan weight other
 
+-- the plan holds and its weight, or its first fault
+abbrev pub IsNumbersAnswer : Problem → Plan → CertAnswer → Type 0
+IsNumbersAnswer p plan (Holds weight) = IsHolding p plan × (plan.weight ≡ weight)
+IsNumbersAnswer p plan (Fault fault) = IsWrongNumber p plan fault
+
 -- the certificate's first fault, of its lines and then of its numbers
 abbrev pub IsRawFault : Problem → Cert → CertFault → Type 0
 IsRawFault p cert (Shape place) = IsWrongLine p cert place
-IsRawFault p cert (Bounds i) = HasRawLines p cert × IsWrongNumber p (plan_in cert) (Bounds i)
-IsRawFault p cert (Arrival i) = HasRawLines p cert × IsWrongNumber p (plan_in cert) (Arrival i)
-IsRawFault p cert (LateStart s) = HasRawLines p cert × IsWrongNumber p (plan_in cert) (LateStart s)
-IsRawFault p cert (LateEnd e) = HasRawLines p cert × IsWrongNumber p (plan_in cert) (LateEnd e)
-IsRawFault p cert (NegativeFlow place) = HasRawLines p cert × IsWrongNumber p (plan_in cert) (NegativeFlow place)
-IsRawFault p cert (Balance node) = HasRawLines p cert × IsWrongNumber p (plan_in cert) (Balance node)
-IsRawFault p cert (Weight weight other) = HasRawLines p cert × IsWrongNumber p (plan_in cert) (Weight weight other)
+IsRawFault p cert other = HasRawLines p cert × IsWrongNumber p (plan_in cert) other
 
--- that it holds and its weight, or its first fault
+-- the certificate holds and its weight, or its first fault
 abbrev pub IsRawAnswer : Problem → Cert → CertAnswer → Type 0
 IsRawAnswer p cert (Holds weight) = IsRawCert p cert × (cert.weight ≡ weight)
 IsRawAnswer p cert (Fault fault) = IsRawFault p cert fault
+
+-- the fact where the certificate holds
+abbrev pub OnHolds : CertAnswer → Type 0 → Type 0
+OnHolds (Holds weight) fact = fact
+OnHolds (Fault fault) fact = Unit {0}
+
+-- the fact of the weight where the certificate holds
+abbrev pub IfHolds : CertAnswer → (ℤ → Type 0) → Type 0
+IfHolds (Holds weight) Fact = Fact weight
+IfHolds (Fault fault) Fact = Unit {0}

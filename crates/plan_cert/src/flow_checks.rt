@@ -6,9 +6,9 @@ ghost use Rattle.plan_cert.specs.Failures.{IsFailure};
 ghost use Rattle.plan_cert.specs.Raw.{HasCounts, HasFlows, IsNegativeFlow, IsFlowAt, IsStartFlowAt, IsEndFlowAt};
 
 use crate::answers::CertPlace;
-use crate::certs::Cert;
 use crate::numbers::{end_flow_at, item_flow_at, start_flow_at};
 use bud_base::Problem;
+use cert_text::Cert;
 
 // The first flow below 0, of items, then starts, then ends.
 pub fn first_negative(problem: &Problem, cert: &Cert) -> Option<CertPlace>

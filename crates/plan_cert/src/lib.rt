@@ -2,14 +2,20 @@
 #![tactic(auto)]
 
 mod answers;
-mod certs;
+mod checks;
 mod flow_checks;
 mod line_checks;
 mod names;
 mod node_sums;
 mod numbers;
+mod sums;
 mod timing_checks;
 mod weights;
 
 pub use answers::{CertAnswer, CertFault, CertPlace};
-pub use certs::{Cert, CertClass, CertClasses, CertFlow, CertFlows, CertItem, CertItems, CertNode, CertNodes, Numbers};
+pub use cert_text::{
+    Cert, CertClass, CertClasses, CertFlow, CertFlows, CertItem, CertItems, CertNode, CertNodes,
+    Numbers,
+};
+pub use checks::check_raw;
+pub use sums::Sums;

@@ -5,9 +5,9 @@ ghost use Rattle.plan_cert.specs.Failures.{IsFailure};
 ghost use Rattle.plan_cert.specs.Raw.{HasCounts, HasRawLines, IsWrongLine};
 
 use crate::answers::CertPlace;
-use crate::certs::{Cert, CertFlow, CertItem, CertNode};
 use crate::names::{names_flow, names_item, names_node};
 use bud_base::{End, Item, Problem, Start};
+use cert_text::{Cert, CertFlow, CertItem, CertNode};
 
 // The first line that isn't the problem's, or that there are too few or too many.
 pub fn first_wrong_line(problem: &Problem, cert: &Cert) -> Option<CertPlace>

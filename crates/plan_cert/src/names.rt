@@ -2,8 +2,8 @@ ghost use Rattle.std.specs.Prelude.{◌≡◌, ◌↔◌, IsTrue};
 ghost use Rattle.std.specs.Fmt.{decimal};
 ghost use Rattle.plan_cert.specs.Lines.{NamesNode, NamesItem, NamesFlow};
 
-use crate::certs::{CertFlow, CertItem, CertNode};
 use bud_base::{Item, NodeId};
+use cert_text::{CertFlow, CertItem, CertNode};
 
 // Whether the name is the number in decimal.
 pub fn is_decimal(name: &[u8], number: u32) -> bool
@@ -33,7 +33,9 @@ pub fn names_node(line: &CertNode, node: u32) -> bool
 pub fn names_item(line: &CertItem, item: &Item) -> bool
     ensures { IsTrue result ↔ NamesItem line.now item.now }
 {
-    line.class.0 == 0 && is_decimal(line.from.as_slice(), item.from.0) && is_decimal(line.to.as_slice(), item.to.0)
+    line.class.0 == 0
+        && is_decimal(line.from.as_slice(), item.from.0)
+        && is_decimal(line.to.as_slice(), item.to.0)
 }
 
 // Whether the line names this node.

@@ -7,9 +7,9 @@ ghost use Rattle.plan_cert.specs.Failures.{IsFailure};
 ghost use Rattle.plan_cert.specs.NodeSums.{IsNodeSum, AreSums, items_sum, inflow_sum, excess_sum};
 ghost use Rattle.plan_cert.specs.Raw.{HasCounts, IsKeptAt};
 
-use crate::certs::Cert;
 use crate::numbers::{end_flow_at, item_flow_at, start_flow_at};
 use bud_base::Problem;
+use cert_text::Cert;
 
 // Sets each sum to 0.
 fn clear(sums: &mut [i128])

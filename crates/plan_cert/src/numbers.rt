@@ -3,7 +3,7 @@ ghost use Rattle.bud_flow.specs.Sums.{number_at};
 ghost use Rattle.bud_model.specs.Plans.{IsPlanNumber, HasPlanNumbers};
 ghost use Rattle.plan_cert.specs.Certs.{plan_in};
 
-use crate::certs::Cert;
+use cert_text::Cert;
 
 // The budget in the line of this number.
 pub fn budget_at(cert: &Cert, i: usize) -> i64

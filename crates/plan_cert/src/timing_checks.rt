@@ -1,14 +1,16 @@
-ghost use Rattle.std.specs.Prelude.{◌≡◌, ◌↔◌, ◌<◌, ◌≤◌, ◌≤ℤ◌, ◌+ℤ◌, length, IsTrue};
+ghost use Rattle.std.specs.Prelude.{◌≡◌, ◌↔◌, ◌<◌, ◌≤◌, ◌≤ℤ◌, ◌+ℤ◌, length, IsTrue, MatchOption};
 ghost use Rattle.bud_base.specs.Soundness.{IsSound};
-ghost use Rattle.bud_model.specs.Budgets.{IsWithinBounds};
+ghost use Rattle.bud_model.specs.Budgets.{IsWithinBounds, SuitBudgets};
 ghost use Rattle.bud_model.specs.Plans.{IsPlanNumber, HasPlanNumbers};
 ghost use Rattle.plan_cert.specs.Certs.{plan_in};
 ghost use Rattle.plan_cert.specs.Failures.{IsFailure};
 ghost use Rattle.plan_cert.specs.Raw.{HasCounts, HasItemArrival, HasStartArrival, HasEndArrival};
+ghost use Rattle.plan_cert.specs.Timing.{IsLate};
 
-use crate::certs::Cert;
+use crate::answers::CertFault;
 use crate::numbers::{arrival_at, budget_at};
-use bud_base::Problem;
+use bud_base::{ItemId, Problem};
+use cert_text::Cert;
 
 // Whether the item's budget is within its bounds.
 fn is_bounded(problem: &Problem, cert: &Cert, i: usize) -> bool
@@ -60,8 +62,27 @@ pub fn first_unbounded(problem: &Problem, cert: &Cert) -> Option<u32>
     None
 }
 
+// The first arrival that doesn't suit, of items, then starts, then ends.
+pub fn first_late(problem: &Problem, cert: &Cert) -> Option<CertFault>
+    requires sound { IsSound problem.now }
+    requires counts { HasCounts problem.now cert.now }
+    requires numbers { HasPlanNumbers (plan_in cert.now) }
+    ensures { MatchOption result (SuitBudgets problem.now (plan_in cert.now).budgets (plan_in cert.now).arrivals) (IsLate problem.now (plan_in cert.now)) }
+{
+    if let Some(i) = first_late_item(problem, cert) {
+        return Some(CertFault::Arrival(ItemId(i)));
+    }
+    if let Some(s) = first_late_start(problem, cert) {
+        return Some(CertFault::Start(s));
+    }
+    match first_late_end(problem, cert) {
+        Some(e) => Some(CertFault::End(e)),
+        None => None,
+    }
+}
+
 // The first item whose budget isn't over before the arrival at its last node.
-pub fn first_late_item(problem: &Problem, cert: &Cert) -> Option<u32>
+fn first_late_item(problem: &Problem, cert: &Cert) -> Option<u32>
     requires sound { IsSound problem.now }
     requires counts { HasCounts problem.now cert.now }
     requires numbers { HasPlanNumbers (plan_in cert.now) }
@@ -100,7 +121,7 @@ fn has_end_arrival(problem: &Problem, cert: &Cert, e: usize) -> bool
 }
 
 // The first start with an arrival before its offset.
-pub fn first_late_start(problem: &Problem, cert: &Cert) -> Option<u32>
+fn first_late_start(problem: &Problem, cert: &Cert) -> Option<u32>
     requires sound { IsSound problem.now }
     requires counts { HasCounts problem.now cert.now }
     requires numbers { HasPlanNumbers (plan_in cert.now) }
@@ -115,7 +136,7 @@ pub fn first_late_start(problem: &Problem, cert: &Cert) -> Option<u32>
 }
 
 // The first end with an arrival past its required time.
-pub fn first_late_end(problem: &Problem, cert: &Cert) -> Option<u32>
+fn first_late_end(problem: &Problem, cert: &Cert) -> Option<u32>
     requires sound { IsSound problem.now }
     requires counts { HasCounts problem.now cert.now }
     requires numbers { HasPlanNumbers (plan_in cert.now) }

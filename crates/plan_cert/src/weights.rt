@@ -7,11 +7,12 @@ ghost use Rattle.bud_model.specs.Budgets.{weight_of};
 ghost use Rattle.bud_model.specs.Plans.{IsPlanNumber, HasPlanNumbers, flow_of};
 ghost use Rattle.plan_cert.specs.Certs.{plan_in};
 ghost use Rattle.plan_cert.specs.Raw.{HasCounts};
-ghost use Rattle.plan_cert.specs.Totals.{IsFactor, IsProduct, IsTotal};
+ghost use Rattle.plan_cert.specs.Totals.{IsFactor, IsProduct, IsTotal, IsWeightAnswer};
 
-use crate::certs::Cert;
+use crate::answers::{CertAnswer, CertFault};
 use crate::numbers::{budget_at, end_flow_at, item_flow_at, start_flow_at};
 use bud_base::{Item, Problem};
+use cert_text::Cert;
 
 // The product of two numbers.
 fn product(left: i64, right: i64) -> i128
@@ -92,7 +93,7 @@ fn end_term(problem: &Problem, cert: &Cert, e: usize) -> i128
 }
 
 // What the budgets weigh.
-pub fn budgets_weight(problem: &Problem, cert: &Cert) -> i128
+fn budgets_weight(problem: &Problem, cert: &Cert) -> i128
     requires sound { IsSound problem.now }
     requires counts { HasCounts problem.now cert.now }
     requires numbers { HasPlanNumbers (plan_in cert.now) }
@@ -103,4 +104,74 @@ pub fn budgets_weight(problem: &Problem, cert: &Cert) -> i128
         total += budget_term(problem, cert, i);
     }
     total
+}
+
+// What the items add to the flow's value.
+fn items_value(problem: &Problem, cert: &Cert) -> i128
+    requires sound { IsSound problem.now }
+    requires counts { HasCounts problem.now cert.now }
+    requires numbers { HasPlanNumbers (plan_in cert.now) }
+    ensures { IsTotal (λ i. item_value (item_at problem.now.items i) (number_at (plan_in cert.now).flow i)) (length problem.now.items) result }
+{
+    let mut total: i128 = 0;
+    for i in 0..problem.items.len() {
+        total += item_term(problem, cert, i);
+    }
+    total
+}
+
+// What the starts take from the flow's value.
+fn starts_value(problem: &Problem, cert: &Cert) -> i128
+    requires sound { IsSound problem.now }
+    requires counts { HasCounts problem.now cert.now }
+    requires numbers { HasPlanNumbers (plan_in cert.now) }
+    ensures { IsTotal (λ s. number_at (plan_in cert.now).start_flow s *ℤ (start_at problem.now.starts s).offset) (length problem.now.starts) result }
+{
+    let mut total: i128 = 0;
+    for s in 0..problem.starts.len() {
+        total += start_term(problem, cert, s);
+    }
+    total
+}
+
+// What the ends add to the flow's value.
+fn ends_value(problem: &Problem, cert: &Cert) -> i128
+    requires sound { IsSound problem.now }
+    requires counts { HasCounts problem.now cert.now }
+    requires numbers { HasPlanNumbers (plan_in cert.now) }
+    ensures { IsTotal (λ e. number_at (plan_in cert.now).end_flow e *ℤ (end_at problem.now.ends e).require) (length problem.now.ends) result }
+{
+    let mut total: i128 = 0;
+    for e in 0..problem.ends.len() {
+        total += end_term(problem, cert, e);
+    }
+    total
+}
+
+// The flow's value.
+fn flow_value(problem: &Problem, cert: &Cert) -> i128
+    requires sound { IsSound problem.now }
+    requires counts { HasCounts problem.now cert.now }
+    requires numbers { HasPlanNumbers (plan_in cert.now) }
+    ensures { result ≡ value_of problem.now (flow_of (plan_in cert.now)) }
+{
+    ends_value(problem, cert) - starts_value(problem, cert) + items_value(problem, cert)
+}
+
+// Compares the budgets' weight with the written weight and the flow's value.
+pub fn compare_weights(problem: &Problem, cert: &Cert) -> CertAnswer
+    requires sound { IsSound problem.now }
+    requires counts { HasCounts problem.now cert.now }
+    requires numbers { HasPlanNumbers (plan_in cert.now) }
+    ensures { IsWeightAnswer problem.now (plan_in cert.now) result }
+{
+    let weight = budgets_weight(problem, cert);
+    if cert.weight != weight {
+        return CertAnswer::Fault(CertFault::Weight(weight, cert.weight));
+    }
+    let value = flow_value(problem, cert);
+    if value != weight {
+        return CertAnswer::Fault(CertFault::Weight(weight, value));
+    }
+    CertAnswer::Holds(weight)
 }

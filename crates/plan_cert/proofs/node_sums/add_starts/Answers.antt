@@ -12,9 +12,9 @@ add-requires-clause-sum c =
     let within : c.loop-s.s ≤ length (plan_in c.args.cert.now).start_flow = simp length-map (omega arith) in
     let starts : c.loop-s.s ≤ 8388608 = omega (arith, c.requires.sound.limits.starts) in
     AreSums-range _ _ _ c.loop-s.invariant (λ v. inflow_sum-range c.args.problem.now (plan_in c.args.cert.now) c.requires.numbers c.loop-s.s v items few within starts) _
-        (rw c.as_slice.ensures (c.requires.sound.starts c.loop-s.s _ (omega arith)).node)
+    (rw c.as_slice.ensures (c.requires.sound.starts c.loop-s.s _ (omega arith)).node)
 
 pub loop-s-preserved : goal.loop-s-preserved
 loop-s-preserved c =
     inflow_sum-step c.args.problem.now (plan_in c.args.cert.now) c.loop-s.s c.as_slice.result.now c.loop-s.sums c.add.new.sums (to_z w64 (of_z w64 c.start_flow_at-flow.result))
-        c.as_slice.ensures (omega (arith, ints, c.start_flow_at-flow.ensures)) c.loop-s.invariant (omega arith) c.add.ensures
+    c.as_slice.ensures (omega (arith, ints, c.start_flow_at-flow.ensures)) c.loop-s.invariant (omega arith) c.add.ensures

@@ -14,9 +14,9 @@ subtract-requires-clause-sum c =
     let all : length c.args.problem.now.starts ≤ 8388608 = c.requires.sound.limits.starts in
     let ends : c.loop-e.e ≤ 8388608 = omega (arith, c.requires.sound.limits.ends) in
     AreSums-range _ _ _ c.loop-e.invariant (λ v. excess_sum-range c.args.problem.now (plan_in c.args.cert.now) c.requires.numbers c.loop-e.e v items few starts all within ends) _
-        (rw c.as_slice.ensures (c.requires.sound.ends c.loop-e.e _ (omega arith)).node)
+    (rw c.as_slice.ensures (c.requires.sound.ends c.loop-e.e _ (omega arith)).node)
 
 pub loop-e-preserved : goal.loop-e-preserved
 loop-e-preserved c =
     excess_sum-step c.args.problem.now (plan_in c.args.cert.now) c.loop-e.e c.as_slice.result.now c.loop-e.sums c.subtract.new.sums (to_z w64 (of_z w64 c.end_flow_at-flow.result))
-        c.as_slice.ensures (omega (arith, ints, c.end_flow_at-flow.ensures)) c.loop-e.invariant (omega arith) c.subtract.ensures
+    c.as_slice.ensures (omega (arith, ints, c.end_flow_at-flow.ensures)) c.loop-e.invariant (omega arith) c.subtract.ensures

@@ -6,4 +6,4 @@ use Rattle.plan_cert.proofs.weights.budgets_weight.Goals as goal
 pub loop-i-preserved : goal.loop-i-preserved
 loop-i-preserved c =
     IsTotal-more _ c.loop-i.i _ c.budget_term-total.result _ c.loop-i.invariant c.budget_term-total.ensures.range c.budget_term-total.ensures.value
-        (omega (arith, ints, c.loop-i.invariant, c.budget_term-total.ensures.range, c.loop-i-test.true))
+    (omega (arith, ints, c.loop-i.invariant, c.budget_term-total.ensures.range, c.loop-i-test.true))

@@ -1,5 +1,4 @@
-use Rattle.std.proofs.Common.{rules, arith}
-use Rattle.std.proofs.lemmas.Int.{ints}
+use Rattle.std.proofs.Common.{rules}
 use Rattle.plan_cert.proofs.TotalLemmas.{IsProduct-of}
 use Rattle.plan_cert.proofs.weights.product.Goals as goal
 

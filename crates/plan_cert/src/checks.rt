@@ -1,0 +1,66 @@
+ghost use Rattle.std.specs.Prelude.{◌≡◌, length, MatchOption};
+ghost use Rattle.bud_base.specs.Soundness.{IsSound};
+ghost use Rattle.bud_model.specs.Budgets.{AreBest, weight_of};
+ghost use Rattle.bud_model.specs.Plans.{HasPlanNumbers, ProvesBudgets, flow_of};
+ghost use Rattle.plan_cert.specs.Certs.{plan_in};
+ghost use Rattle.plan_cert.specs.Raw.{HasCounts, IsNumbersAnswer, IsRawAnswer, IsRawCert, OnHolds, IfHolds};
+ghost use Rattle.plan_cert.specs.Timing.{IsLate};
+
+use crate::answers::{CertAnswer, CertFault};
+use crate::flow_checks::first_negative;
+use crate::line_checks::first_wrong_line;
+use crate::sums::Sums;
+use crate::timing_checks::{first_late, first_unbounded};
+use crate::weights::compare_weights;
+use bud_base::{ItemId, NodeId, Problem};
+use cert_text::Cert;
+
+/// Checks a certificate of a raw problem, whoever wrote it, and takes no memory.
+///
+/// It holds exactly where its lines name the problem's nodes, items, starts and ends in their order, its budgets are
+/// within bounds, its arrivals suit them, its flow is balanced, and the budgets' weight, the flow's value and the
+/// written weight are one. Then its budgets are best over all paths.
+pub fn check_raw(problem: &Problem, cert: &Cert, sums: &mut Sums) -> CertAnswer
+    requires sound { IsSound problem.now }
+    requires numbers { HasPlanNumbers (plan_in cert.now) }
+    requires sums { sums.old ≡ problem.now.nodes }
+
+    ensures answer { IsRawAnswer problem.now cert.now result }
+    ensures accepts { IsRawCert problem.now cert.now → result ≡ CertAnswer.Holds cert.now.weight }
+
+    // What a certificate that holds shows.
+    ensures weight { IfHolds result (λ weight. weight_of problem.now (plan_in cert.now).budgets ≡ weight) }
+    ensures best { OnHolds result (AreBest problem.now (plan_in cert.now).budgets) }
+    ensures proves { OnHolds result (ProvesBudgets problem.now (plan_in cert.now).budgets (flow_of (plan_in cert.now))) }
+
+    ensures sums { sums.new ≡ sums.old }
+{
+    match first_wrong_line(problem, cert) {
+        Some(place) => CertAnswer::Fault(CertFault::Shape(place)),
+        None => check_numbers(problem, cert, sums),
+    }
+}
+
+// Checks the numbers of a certificate that has the problem's lines.
+fn check_numbers(problem: &Problem, cert: &Cert, sums: &mut Sums) -> CertAnswer
+    requires sound { IsSound problem.now }
+    requires counts { HasCounts problem.now cert.now }
+    requires numbers { HasPlanNumbers (plan_in cert.now) }
+    requires sums { sums.old ≡ problem.now.nodes }
+    ensures answer { IsNumbersAnswer problem.now (plan_in cert.now) result }
+    ensures sums { sums.new ≡ sums.old }
+{
+    if let Some(i) = first_unbounded(problem, cert) {
+        return CertAnswer::Fault(CertFault::Bounds(ItemId(i)));
+    }
+    if let Some(fault) = first_late(problem, cert) {
+        return CertAnswer::Fault(fault);
+    }
+    if let Some(place) = first_negative(problem, cert) {
+        return CertAnswer::Fault(CertFault::NegativeFlow(place));
+    }
+    if let Some(node) = sums.first_unkept(problem, cert) {
+        return CertAnswer::Fault(CertFault::Balance(NodeId(node)));
+    }
+    compare_weights(problem, cert)
+}
