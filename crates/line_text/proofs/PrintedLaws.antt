@@ -12,8 +12,9 @@ use Rattle.std.proofs.lemmas.Bool.{and_parts}
 use Rattle.std.proofs.lemmas.Bool.Decides.{nat_tests}
 use Rattle.std.proofs.lemmas.Fmt.{digits_decimal, digits_value-decimal, decimal_nonempty}
 use Rattle.std.proofs.lemmas.Str.Parse.{IsNumeralModel, numerals_by_weight}
+use Rattle.text_scan.specs.Digits.{value_of}
 use Rattle.line_text.specs.Parts.{Part, is_blank, is_feed}
-use Rattle.line_text.specs.Numbers.{value_of, natural_of, whole_of, is_within, whole, count}
+use Rattle.line_text.specs.Numbers.{natural_of, whole_of, is_within, whole, count}
 use Rattle.line_text.specs.Written.{is_field}
 
 own : IsNumeralModel (λ ds. all_ascii_digits ds ≡ true) value_of

@@ -1,14 +1,10 @@
 -- Whole numbers in fields, and productions that read a field.
-use Rattle.std.specs.Prelude.{ℕ, ◌+◌, ◌-◌, ◌*◌, ◌^◌, ◌==◌, ◌&&◌, ℤ, pos, negsuc, ◌-ℤ◌, int_le, Bool, List, [], ◌∷◌, length, Option, Some, None, if◌then◌else◌}
+use Rattle.std.specs.Prelude.{ℕ, ◌==◌, ◌&&◌, ℤ, pos, negsuc, ◌-ℤ◌, int_le, Bool, List, [], ◌∷◌, Option, Some, None, if◌then◌else◌}
 use Rattle.std.specs.Option.{option_map}
 use Rattle.std.specs.Str.{all_ascii_digits, bytes_eq}
+use Rattle.text_scan.specs.Digits.{value_of}
 use Rattle.text_scan.specs.Left.{Left, ◌>>=◌, next, breached}
 use Rattle.line_text.specs.Parts.{Part}
-
--- what decimal digits stand for, each of them by its place
-abbrev pub value_of : List ℕ → ℕ
-value_of [] = 0
-value_of (digit ∷ digits) = (digit - 48) * 10 ^ length digits + value_of digits
 
 -- at least one digit, and nothing else
 abbrev pub natural_of : List ℕ → Option ℕ

@@ -1,2 +1,6 @@
 pub mod Left
 pub mod Gives
+pub mod Digits
+pub mod Decimals
+pub mod Cursors
+pub mod Scans

@@ -1,17 +1,11 @@
-//! Readers of texts.
+//! What readers of texts share: cursors with exact decimals, and the least of two offsets.
 #![tactic(auto)]
 
-ghost use Rattle.std.specs.Prelude.{◌≡◌};
-ghost use Rattle.text_scan.specs.Left.{lesser};
+mod cursors;
+mod decimals;
+mod offsets;
+mod scans;
 
-/// The lesser of two offsets, where there are any.
-#[inline]
-pub fn lesser_of(first: Option<usize>, second: Option<usize>) -> Option<usize>
-    ensures { result ≡ lesser first second }
-{
-    match (first, second) {
-        (None, _) => second,
-        (_, None) => first,
-        (Some(a), Some(b)) => Some(a.min(b)),
-    }
-}
+pub use cursors::Cursor;
+pub use decimals::{Round, ScanFault};
+pub use offsets::lesser_of;
