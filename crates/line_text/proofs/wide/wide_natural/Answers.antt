@@ -1,6 +1,7 @@
 use Rattle.std.proofs.Common.{◌≡◌, ◌+◌, ◌∷◌, sym, ◌∙◌, rules, arith, drop, get_or}
 use Rattle.std.proofs.lemmas.List.{drop_more, drop_all}
-use Rattle.line_text.proofs.NumberLemmas.{read_on_step, read_all, digits_behind}
+use Rattle.text_scan.proofs.DigitLemmas.{read_on_step, digits_behind}
+use Rattle.line_text.proofs.NumberLemmas.{read_all}
 use Rattle.line_text.proofs.wide.wide_natural.Goals as goal
 
 pub loop-digit-preserved : goal.loop-digit-preserved

@@ -1,7 +1,7 @@
 use Rattle.std.proofs.Common.{◌≡◌, ◌≤◌, min, drop}
 use Rattle.std.specs.Str.{all_ascii_digits}
-use Rattle.line_text.specs.Numbers.{value_of}
-use Rattle.line_text.proofs.NumberLemmas.{read_on}
+use Rattle.text_scan.specs.Digits.{value_of}
+use Rattle.text_scan.proofs.DigitLemmas.{read_on}
 use Rattle.line_text.proofs.wide.wide_natural.Given as goal
 
 -- what is left decides, after what has been read
