@@ -3,3 +3,4 @@ pub mod Lines
 pub mod Texts
 pub mod Reading
 pub mod Sizes
+pub mod Writing
