@@ -21,3 +21,8 @@ by_test false holds fails = fails refl
 pub guard_true : {A B : Type 0} (test : Bool) (x : A) (f : A → Option B) (y : B) → ((if test then Some x else None) >>= f) ≡ Some y → test ≡ true
 guard_true true x f y h = refl
 guard_true false x f y h = absurd (cc)
+
+-- what holds whether or not there is a value
+pub by_option : {A P : Type 0} (o : Option A) → (o ≡ None → P) → ((x : A) → o ≡ Some x → P) → P
+by_option None missing found = missing refl
+by_option (Some x) missing found = found x refl

@@ -3,3 +3,6 @@ pub mod DigitLemmas
 pub mod ScanLemmas
 pub mod AmountLemmas
 pub mod CursorLemmas
+pub mod DecimalLaws
+pub mod RepeatLaws
+pub mod NestingLaws

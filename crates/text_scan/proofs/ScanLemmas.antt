@@ -155,7 +155,7 @@ scanned_begins text some = record {
 spelled_out : (text : List ℕ) (d : Decimal) → (given : Begins text d) → text ≡ sign_bytes d.sign ++ ((d.whole ++ point_bytes d.point) ++ given.rest)
 spelled_out text d given = given.spelled ∙ append_assoc (sign_bytes d.sign) (d.whole ++ point_bytes d.point) given.rest
 
-scanned_of : (text : List ℕ) (d : Decimal) → (given : Begins text d) → scanned text ≡ extended d.sign d.whole d.point given.rest
+pub scanned_of : (text : List ℕ) (d : Decimal) → (given : Begins text d) → scanned text ≡ extended d.sign d.whole d.point given.rest
 scanned_of text d given = ap scanned (spelled_out text d given) ∙ scanned_extends d.sign d.whole d.point given.rest given.digits given.some
 
 -- where a number stands at the front, what is scanned has a digit

@@ -4,3 +4,5 @@ pub mod Digits
 pub mod Decimals
 pub mod Cursors
 pub mod Scans
+pub mod Repeat
+pub mod Nesting

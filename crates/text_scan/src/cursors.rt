@@ -1,5 +1,7 @@
-ghost use Rattle.std.specs.Prelude.{◌≡◌, ◌+◌, ◌<◌, ◌≤◌, ◌^◌, length, min, OnErr, slice_get};
-ghost use Rattle.text_scan.specs.Cursors.{IsDecimalAnswer};
+ghost use Rattle.std.specs.Prelude.{◌≡◌, ℕ, ℤ, Result, ◌+◌, ◌<◌, ◌≤◌, ◌^◌, length, min, OnErr, slice_get};
+ghost use Rattle.text_scan.specs.Cursors.{Place, IsDecimalAnswer};
+ghost use Rattle.text_scan.specs.declared.decimals.Round.{Round};
+ghost use Rattle.text_scan.specs.declared.decimals.ScanFault.{ScanFault};
 
 use crate::decimals::{Round, ScanFault};
 use crate::scans::read_front;
@@ -74,3 +76,9 @@ impl<'a> Cursor<'a> {
         }
     }
 }
+
+/// What is answered at a place is determined, and so is the place after it: the causes of the answers exclude each other.
+pub fn one_decimal()
+    ensures { (old new other : Place) (unit : ℕ) (round : Round) (r s : Result ℤ ScanFault) →
+        IsDecimalAnswer old new unit round r → IsDecimalAnswer old other unit round s → (r ≡ s) × (new ≡ other) }
+{}

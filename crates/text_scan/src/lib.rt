@@ -6,6 +6,6 @@ mod decimals;
 mod offsets;
 mod scans;
 
-pub use cursors::Cursor;
+pub use cursors::{Cursor, one_decimal};
 pub use decimals::{Round, ScanFault};
 pub use offsets::lesser_of;
