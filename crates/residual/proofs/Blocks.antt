@@ -31,10 +31,10 @@ pub by_block : (m n o k j : ℕ) (P : ℕ → Type 0) → ((i : ℕ) → i < m �
 by_block m n o k j P first second third fourth below = elim (cases_lt j m) [
   | inl in_first ↦ first j in_first
   | inr past_first ↦ elim (cases_lt j (m + n)) [
-      | inl in_second ↦ let e : m + (j - m) ≡ j = omega arith in subst P e (second (j - m) (omega arith))
-      | inr past_second ↦ elim (cases_lt j (m + n + o)) [
-          | inl in_third ↦ let e : m + n + (j - (m + n)) ≡ j = omega arith in subst P e (third (j - (m + n)) (omega arith))
-          | inr in_fourth ↦ let e : m + n + o + (j - (m + n + o)) ≡ j = omega arith in subst P e (fourth (j - (m + n + o)) (omega arith))
-      ]
+    | inl in_second ↦ let e : m + (j - m) ≡ j = omega arith in subst P e (second (j - m) (omega arith))
+    | inr past_second ↦ elim (cases_lt j (m + n + o)) [
+      | inl in_third ↦ let e : m + n + (j - (m + n)) ≡ j = omega arith in subst P e (third (j - (m + n)) (omega arith))
+      | inr in_fourth ↦ let e : m + n + o + (j - (m + n + o)) ≡ j = omega arith in subst P e (fourth (j - (m + n + o)) (omega arith))
+    ]
   ]
 ]

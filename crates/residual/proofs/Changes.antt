@@ -100,7 +100,7 @@ pub excess_below-more : (arcs : List Arc) (flows numbers after : List ℤ) (j : 
 excess_below-more arcs flows numbers after j amount from to told is_flow is v below =
     let size : length after ≡ length numbers = ap length is ∙ length-excesses_after (arc_at arcs j) amount numbers in
     let one : number_at after v ≡ number_at numbers v +ℤ (cond ((arc_at arcs j).to.0 == v) amount (pos 0) -ℤ cond ((arc_at arcs j).from.0 == v) amount (pos 0))
-        = ap (λ xs. number_at xs v) is ∙ number_at-excesses_after (arc_at arcs j) amount numbers v from to in
+    = ap (λ xs. number_at xs v) is ∙ number_at-excesses_after (arc_at arcs j) amount numbers v from to in
     let more_to = sum_below-more j (λ k. cond ((arc_at arcs k).to.0 == v) (number_at flows k) (pos 0)) in
     let more_from = sum_below-more j (λ k. cond ((arc_at arcs k).from.0 == v) (number_at flows k) (pos 0)) in
     let same_to = ap (λ x. cond ((arc_at arcs j).to.0 == v) x (pos 0)) is_flow in

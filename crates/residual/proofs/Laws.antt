@@ -29,7 +29,7 @@ pub excess_below-within : (count : ℕ) (arcs : List Arc) (flows : List ℤ) (v 
     → IsWithin (pos (2 ^ 113)) (excess_below count arcs flows v)
 excess_below-within count arcs flows v inside few carried =
     let bounds : (k : ℕ) → k < count → (pos 0 ≤ℤ number_at flows k) × (number_at flows k ≤ℤ pos (2 ^ 80))
-        = λ k below. let one = carried k (omega (arith, below, inside)) in (one.least, omega (arith, ints, one.most, one.limit)) in
+    = λ k below. let one = carried k (omega (arith, below, inside)) in (one.least, omega (arith, ints, one.most, one.limit)) in
     let to = sum_at-bounds count (2 ^ 80) (λ j. (arc_at arcs j).to.0) (number_at flows) v bounds in
     let from = sum_at-bounds count (2 ^ 80) (λ j. (arc_at arcs j).from.0) (number_at flows) v bounds in
     record { low = omega (arith, ints, to.0, to.1, from.0, from.1, few, inside); high = omega (arith, ints, to.0, to.1, from.0, from.1, few, inside) }

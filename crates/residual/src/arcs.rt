@@ -102,7 +102,12 @@ fn fill_excesses(excess: &mut [i128], arcs: &[Arc], flows: &[i128])
 }
 
 /// The excesses of this many nodes, the root among them.
-pub fn excesses_of(alloc: Global, nodes: usize, arcs: &[Arc], flows: &[i128]) -> Result<Vec<i128>, AllocError>
+pub fn excesses_of(
+    alloc: Global,
+    nodes: usize,
+    arcs: &[Arc],
+    flows: &[i128],
+) -> Result<Vec<i128>, AllocError>
     requires sizes { length flows.now ≡ length arcs.now }
     requires few { length arcs.now < 2 ^ 32 }
     requires nodes { JoinBelow nodes arcs.now }
@@ -196,7 +201,13 @@ fn end_of(root: NodeId, end: &End) -> Arc
 }
 
 /// The arcs of a problem: for each item that with room for its weight, for each item that without limit, and those of the starts and of the ends.
-pub fn arcs_of(alloc: Global, root: NodeId, items: &[Item], starts: &[Start], ends: &[End]) -> Result<Vec<Arc>, AllocError>
+pub fn arcs_of(
+    alloc: Global,
+    root: NodeId,
+    items: &[Item],
+    starts: &[Start],
+    ends: &[End],
+) -> Result<Vec<Arc>, AllocError>
     requires items { All HasSmallTimes items.now }
     requires starts { All (λ s. IsSmall s.offset) starts.now }
     ensures { IfOk result (λ arcs. arcs.items ≡ map limited_arc items.now ++ map open_arc items.now ++ map (start_arc root.0) starts.now ++ map (end_arc root.0) ends.now) }
@@ -225,7 +236,13 @@ fn first_flow_of(item: &Item, potentials: &[i64]) -> i128
 }
 
 /// The first flows of all arcs.
-pub fn first_flows(alloc: Global, potentials: &[i64], items: &[Item], starts: &[Start], ends: &[End]) -> Result<Vec<i128>, AllocError>
+pub fn first_flows(
+    alloc: Global,
+    potentials: &[i64],
+    items: &[Item],
+    starts: &[Start],
+    ends: &[End],
+) -> Result<Vec<i128>, AllocError>
     requires items { All (IsBetween (length potentials.now)) items.now }
     requires small { AllWithin (pos (2 ^ 60)) potentials.now }
     ensures { IfOk result (λ flows. flows.items ≡ map (first_flow potentials.now) items.now ++ map (λ _. pos 0) items.now ++ map (λ _. pos 0) starts.now ++ map (λ _. pos 0) ends.now) }
@@ -237,4 +254,11 @@ pub fn first_flows(alloc: Global, potentials: &[i64], items: &[Item], starts: &[
         .chain(starts.iter().map(|_| 0i128))
         .chain(ends.iter().map(|_| 0i128))
         .collect(alloc)
+}
+
+/// The same times once more.
+pub fn copied(alloc: Global, times: &[i64]) -> Result<Vec<i64>, AllocError>
+    ensures { IfOk result (λ copy. copy.items ≡ times.now) }
+{
+    times.iter().copied().collect(alloc)
 }
