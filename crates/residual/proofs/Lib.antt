@@ -6,3 +6,4 @@ pub mod Sweeping
 pub mod Blocks
 pub mod Pairs
 pub mod Freshness
+pub mod Ends

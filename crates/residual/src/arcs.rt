@@ -64,6 +64,16 @@ pub fn look_at(arcs: &[Arc], flows: &[i128], key: usize) -> Look
     look_of(arcs[key / 2], flows[key / 2], key % 2 == 0)
 }
 
+/// The number at a place.
+pub fn number_in(numbers: &[i128], place: usize) -> i128
+    requires place { place < length numbers.now }
+    requires within { AllWithin (pos (2 ^ 113)) numbers.now }
+    ensures value { result ≡ number_at numbers.now place }
+    ensures within { IsWithin (pos (2 ^ 113)) result }
+{
+    numbers[place]
+}
+
 /// Adds an amount to the number at a place.
 pub fn add_at(numbers: &mut [i128], place: usize, amount: i128)
     requires place { place < length numbers.old }

@@ -3,7 +3,7 @@ ghost use Rattle.bud_flow.specs.Sums.{number_at};
 
 use crate::arcs::{
     Arc, Look, add_at, arcs_of, copied, excesses_of, first_flows, forward_amount, keep, lift_at,
-    look_at, move_excess,
+    look_at, move_excess, number_in,
 };
 use crate::arrivals::least_arrivals;
 use bud_base::{ItemId, NodeId, Problem, Steps};
@@ -43,7 +43,7 @@ impl Net {
     ghost use Rattle.bud_base.specs.Soundness.{IsSound};
     ghost use Rattle.bud_flow.specs.Arrivals.{Suit};
     ghost use Rattle.residual.specs.Arcs.{reduced_cost};
-    ghost use Rattle.residual.specs.Bounds.{IsSmall};
+    ghost use Rattle.residual.specs.Bounds.{IsSmall, IsWithin};
     ghost use Rattle.residual.specs.Excesses.{flows_after};
     ghost use Rattle.residual.specs.Networks.{IsKey, residual, IsLawful, AreReduced, excess_at, item_flow_at, start_flow_at, end_flow_at, Fits, IsFresh};
 
@@ -82,6 +82,9 @@ impl Net {
     pub fn look<L: Ledger>(&self, arc: usize, steps: &mut Steps<L>) -> Look
         requires { IsKey self.now arc }
         ensures look { result ≡ residual self.now arc }
+        ensures from { result.from.0 < self.now.nodes + 1 }
+        ensures to { result.to.0 < self.now.nodes + 1 }
+        ensures cost { IsSmall result.cost }
         ensures lawful { IsLawful self.now }
         ensures steps { steps.new ≡ steps.old + 1 }
     {
@@ -93,15 +96,17 @@ impl Net {
     pub fn excess(&self, node: NodeId) -> i128
         requires { node.0 < self.now.nodes + 1 }
         ensures excess { result ≡ excess_at self.now node.0 }
+        ensures small { IsWithin (pos (2 ^ 113)) result }
         ensures lawful { IsLawful self.now }
     {
-        self.excess[node.0 as usize]
+        number_in(&self.excess, node.0 as usize)
     }
 
     /// The potential of a node, with the lifts of the open round, in ps.
     pub fn potential(&self, node: NodeId) -> i64
         requires { node.0 < self.now.nodes + 1 }
         ensures potential { result ≡ number_at self.now.potentials node.0 }
+        ensures small { IsSmall result }
         ensures lawful { IsLawful self.now }
     {
         self.potentials[node.0 as usize]
