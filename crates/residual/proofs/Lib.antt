@@ -7,3 +7,5 @@ pub mod Blocks
 pub mod Pairs
 pub mod Freshness
 pub mod Ends
+pub mod Balance
+pub mod Theory
