@@ -1,2 +1,4 @@
 pub mod Nearness
 pub mod Seeds
+pub mod Labels
+pub mod Taking

@@ -1,5 +1,5 @@
 -- A search: the nodes that it took, and what it is looking for.
-use Rattle.std.specs.Prelude.{◌≡◌, ℕ, ℤ, pos, ◌+◌, ◌<◌, ◌≤◌, ◌+ℤ◌, ◌<ℤ◌, ◌≤ℤ◌, ◌^◌, Bool, true, false, Option, Some, None, List, length, count_by, int_le, if◌then◌else◌}
+use Rattle.std.specs.Prelude.{◌≡◌, ℕ, ℤ, pos, ◌+◌, ◌<◌, ◌≤◌, ◌+ℤ◌, ◌<ℤ◌, ◌≤ℤ◌, ◌^◌, Bool, true, false, Option, Some, None, List, length, int_le, if◌then◌else◌}
 use Rattle.residual.specs.Bounds.{IsWithin}
 use Rattle.residual.specs.Networks.{Network, IsKey, residual, excess_at}
 use Rattle.flow_solver.specs.Entries.{entry_at, label_at, distance_over, IsLabelling, IsEntry}
@@ -25,7 +25,7 @@ pub record AreTaken (net : Network) (entries : List (Option Entry)) (last : ℤ)
   pub labelling : IsLabelling net (label_at entries last)
   pub each : (v : ℕ) (e : Entry) → entry_at entries v ≡ Some e → IsEntry net entries last count v e
   pub attained : (v : ℕ) × (v < length entries) × (label_at entries last v ≡ last)
-  pub begun : (v : ℕ) × (v < length entries) × (label_at entries last v ≡ pos 0) × (pos 0 <ℤ excess_at net v)
+  pub begun : (v : ℕ) × (v < length entries) × (entry_at entries v ≡ Some (record { distance = pos 0; by = None; place = 0 })) × (pos 0 <ℤ excess_at net v)
 
 -- none of the nodes that are taken lacks flow
 pub record NoneLacks (net : Network) (entries : List (Option Entry)) : Type 0 where
@@ -42,14 +42,6 @@ IsNearestBelow net entries count (Some c) =
 abbrev pub nearer_of : Option Candidate → Candidate → Candidate
 nearer_of None other = other
 nearer_of (Some best) other = if int_le best.distance other.distance then best else other
-
--- how many nodes aren't taken
-abbrev pub is_free : Option Entry → Bool
-is_free None = true
-is_free (Some e) = false
-
-abbrev pub free_count : List (Option Entry) → ℕ
-free_count entries = count_by is_free entries
 
 -- the distances of taken nodes are small
 abbrev pub HaveSmallDistances : List (Option Entry) → Type 0
