@@ -17,12 +17,9 @@ use Rattle.residual.proofs.Theory.{Suit-from_reduced, IsWithin-from_suit}
 use Rattle.residual.specs.declared.arcs.Look.{Look}
 use Rattle.flow_solver.specs.Entries.{entry_at, label_of, label_at, distance_by, distance_over, IsLabelling, IsReachedOver, HasCauseBy, IsEntry}
 use Rattle.flow_solver.specs.Searches.{AreSeeded, AreTaken, NoneLacks, IsNearestBelow, HaveSmallDistances}
+use Rattle.flow_solver.specs.Lifts.{AreLifted}
 use Rattle.flow_solver.specs.declared.entries.Entry.{Entry}
 use Rattle.flow_solver.specs.declared.entries.Candidate.{Candidate}
-
--- potentials that differ from others by what the root's label is above each node's
-pub record AreLifted (nodes : ℕ) (before after : List ℤ) (label : ℕ → ℤ) : Type 0 where
-  pub each : (v : ℕ) → v < nodes + 1 → number_at after v ≡ number_at before v +ℤ (label nodes -ℤ label v)
 
 -- an arc gains what the labels don't use up
 pub reduced_cost-lifted : (nodes : ℕ) (before after : List ℤ) (label : ℕ → ℤ) (look : Look) → AreLifted nodes before after label → look.from.0 < nodes + 1 → look.to.0 < nodes + 1
@@ -44,7 +41,7 @@ label-within net p label v sound lawful fits room reduced labelling below =
     let lifted : AreLifted net.nodes net.potentials after label = record { each = λ k inside. get_or-map-range_with_len raise 0 (net.nodes + 1) k k (pos 0) inside (omega arith) } in
     let root_was : number_at net.potentials p.nodes ≡ pos 0 = ap (number_at net.potentials) (sym fits.nodes) ∙ lawful.root in
     let root_is : number_at after p.nodes ≡ pos 0 =
-        ap (number_at after) (sym fits.nodes) ∙ omega (arith, ints, lifted.each net.nodes (omega arith), lawful.root) in
+    ap (number_at after) (sym fits.nodes) ∙ omega (arith, ints, lifted.each net.nodes (omega arith), lawful.root) in
     let suited = Suit-from_reduced net p after lawful.sizes fits room (AreReduced-lifted net after label lawful labelling lifted) root_is in
     let suited_before = Suit-from_reduced net p net.potentials lawful.sizes fits room reduced root_was in
     elim (cases_lt v p.nodes) [

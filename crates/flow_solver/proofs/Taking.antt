@@ -48,20 +48,20 @@ pub AreTaken-seeded : (net : Network) (entries : List (Option Entry)) → AreSee
     → ((v : ℕ) × (v < length entries) × (pos 0 <ℤ excess_at net v)) → AreTaken net entries (pos 0) 1
 AreTaken-seeded net entries seeded reduced some =
     let label_is : (v : ℕ) → label_at entries (pos 0) v ≡ pos 0
-        = λ v. by_entry (entry_at entries v) (λ none. ap (label_of (pos 0)) none)
-            (λ e is. ap (label_of (pos 0)) is ∙ ap (λ (f : Entry). f.distance) (seeded_is net entries v e seeded is).0) in
+    = λ v. by_entry (entry_at entries v) (λ none. ap (label_of (pos 0)) none)
+    (λ e is. ap (label_of (pos 0)) is ∙ ap (λ (f : Entry). f.distance) (seeded_is net entries v e seeded is).0) in
     record {
       size = seeded.size;
       labelling = record { each = λ key is_key room. omega (arith, ints, label_is (residual net key).to.0, label_is (residual net key).from.0, reduced key is_key room) };
       each = λ v e is.
-        let seed = seeded_is net entries v e seeded is in
-        let far : e.distance ≡ pos 0 = ap (λ (f : Entry). f.distance) seed.0 in
-        record {
-          cause = rw seed.0 (refl, seed.1);
-          least = omega (arith, ints, far);
-          most = omega (arith, ints, far);
-          place = omega (arith, ap (λ (f : Entry). f.place) seed.0);
-        };
+          let seed = seeded_is net entries v e seeded is in
+          let far : e.distance ≡ pos 0 = ap (λ (f : Entry). f.distance) seed.0 in
+          record {
+            cause = rw seed.0 (refl, seed.1);
+            least = omega (arith, ints, far);
+            most = omega (arith, ints, far);
+            place = omega (arith, ap (λ (f : Entry). f.place) seed.0);
+          };
       attained = (some.0, some.1, label_is some.0);
       begun = (some.0, some.1, seeded.some some.0 some.1 some.2, some.2);
     }
@@ -112,18 +112,18 @@ raised_labelling : (net : Network) (entries : List (Option Entry)) (last : ℤ) 
     → arcs ≡ 2 * length net.arcs → IsNearestBelow net entries arcs (Some c) → last ≤ℤ c.distance → IsLabelling net (label_at entries c.distance)
 raised_labelling net entries last count arcs c reduced taken is_arcs nearest farther = record {
   each = λ key is_key room.
-    let u : ℕ = (residual net key).from.0 in
-    let w : ℕ = (residual net key).to.0 in
-    let cost = reduced key is_key room in
-    let before = taken.labelling.each key is_key room in
-    by_entry (entry_at entries u)
-    (λ u_free. by_entry (entry_at entries w)
+      let u : ℕ = (residual net key).from.0 in
+      let w : ℕ = (residual net key).to.0 in
+      let cost = reduced key is_key room in
+      let before = taken.labelling.each key is_key room in
+      by_entry (entry_at entries u)
+      (λ u_free. by_entry (entry_at entries w)
       (λ w_free. omega (arith, ints, cost, ap (label_of c.distance) u_free, ap (label_of c.distance) w_free))
       (λ f w_is. omega (arith, ints, cost, ap (label_of c.distance) u_free, ap (label_of c.distance) w_is, (taken.each w f w_is).most, farther)))
-    (λ e u_is. by_entry (entry_at entries w)
+      (λ e u_is. by_entry (entry_at entries w)
       (λ w_free.
-        let near = nearest.3 key (e.distance +ℤ reduced_cost net.potentials (residual net key)) (omega (arith, is_key, is_arcs)) (distance_over-some net entries key e room u_is w_free) in
-        omega (arith, ints, near, ap (label_of c.distance) u_is, ap (label_of c.distance) w_free))
+      let near = nearest.3 key (e.distance +ℤ reduced_cost net.potentials (residual net key)) (omega (arith, is_key, is_arcs)) (distance_over-some net entries key e room u_is w_free) in
+      omega (arith, ints, near, ap (label_of c.distance) u_is, ap (label_of c.distance) w_free))
       (λ f w_is. omega (arith, ints, before, ap (label_of last) u_is, ap (label_of last) w_is, ap (label_of c.distance) u_is, ap (label_of c.distance) w_is)));
 }
 
@@ -163,9 +163,9 @@ AreTaken-more net entries after last told count arcs c lawful reduced taken is_a
     let begun_least : pos 0 ≤ℤ last = (taken.each taken.begun.0 seed_entry taken.begun.2).most in
     let raised = raised_labelling net entries last count arcs c reduced taken is_arcs nearest farther in
     let label_is : (v : ℕ) → label_at (set entries w (Some new)) c.distance v ≡ label_at entries c.distance v
-        = λ v. label_at-taken entries w v last c.distance new there free is_told in
+    = λ v. label_at-taken entries w v last c.distance new there free is_told in
     let kept : (v : ℕ) (e : Entry) → entry_at entries v ≡ Some e → entry_at (set entries w (Some new)) v ≡ Some e
-        = λ v e is_e. kept_entry entries w v (Some new) e free is_e in
+    = λ v e is_e. kept_entry entries w v (Some new) e free is_e in
     let here : entry_at (set entries w (Some new)) w ≡ Some new = get_or-set_same entries w (Some new) None there in
     let whole : AreTaken net (set entries w (Some new)) c.distance (count + 1) = record {
       size = length-set entries w (Some new) ∙ taken.size;
@@ -220,12 +220,12 @@ nearest-exists net p entries last count arcs sound lawful fits room taken none i
     let In : ℕ → Type 0 = λ v. (e : Entry) × (entry_at entries v ≡ Some e) in
     let closed : IsClosed net In = record {
       each = λ key is_key more from. by_entry (entry_at entries (residual net key).to.0)
-        (λ free. absurd (none-some (distance_over net entries key) (from.0.distance +ℤ reduced_cost net.potentials (residual net key)) (nowhere key (omega (arith, is_key, is_arcs)))
+          (λ free. absurd (none-some (distance_over net entries key) (from.0.distance +ℤ reduced_cost net.potentials (residual net key)) (nowhere key (omega (arith, is_key, is_arcs)))
           (distance_over-some net entries key from.0 more from.1 free)))
-        (λ e is. (e, is));
+          (λ e is. (e, is));
     } in
     let all : (v : ℕ) → v < p.nodes + 1 → In v
-        = IsClosed-all net p In sound lawful.sizes fits room closed taken.begun.0 (omega (arith, taken.begun.1, taken.size, fits.nodes)) (seed_entry, taken.begun.2) in
+    = IsClosed-all net p In sound lawful.sizes fits room closed taken.begun.0 (omega (arith, taken.begun.1, taken.size, fits.nodes)) (seed_entry, taken.begun.2) in
     let least : (v : ℕ) → v < net.nodes + 1 → pos 0 ≤ℤ excess_at net v = λ v below. let one = all v (omega (arith, below, fits.nodes)) in none.each v one.0 one.1 in
     let some : pos 0 <ℤ excess_at net taken.begun.0 = taken.begun.3 in
     let within : taken.begun.0 < net.nodes + 1 = omega (arith, taken.begun.1, taken.size) in
@@ -244,3 +244,67 @@ free_count-taken (None ∷ es) zero new there free = omega arith
 free_count-taken (Some e ∷ es) zero new there free = absurd (cc)
 free_count-taken (None ∷ es) (suc w) new there free = omega (arith, free_count-taken es w new (omega arith) free)
 free_count-taken (Some e ∷ es) (suc w) new there free = free_count-taken es w new (omega arith) free
+
+-- a search that goes on
+pub record IsSearching (net : Network) (entries : List (Option Entry)) (place : ℕ) : Type 0 where
+  pub last : ℤ
+  pub taken : AreTaken net entries last place
+  pub none : NoneLacks net entries
+  pub few : place + free_count entries ≤ length entries + 1
+
+pub IsSearching-seeded : (net : Network) (entries : List (Option Entry)) → AreSeeded net entries → AreReduced net net.potentials
+    → ((v : ℕ) × (v < length entries) × (pos 0 <ℤ excess_at net v)) → IsSearching net entries 1
+IsSearching-seeded net entries seeded reduced some = record {
+  last = pos 0;
+  taken = AreTaken-seeded net entries seeded reduced some;
+  none = NoneLacks-seeded net entries seeded;
+  few = omega (arith, free_count-most entries);
+}
+  where
+    free_count-most : (es : List (Option Entry)) → free_count es ≤ length es
+    free_count-most [] = omega arith
+    free_count-most (None ∷ es) = omega (arith, free_count-most es)
+    free_count-most (Some e ∷ es) = omega (arith, free_count-most es)
+
+-- what is known of the nearest candidate
+pub record IsCandidate (net : Network) (entries : List (Option Entry)) (c : Candidate) : Type 0 where
+  pub there : c.node.0 < length entries
+  pub free : entry_at entries c.node.0 ≡ None
+  pub within : IsWithin (pos (2 ^ 62)) c.distance
+
+pub IsCandidate-nearest : (net : Network) (entries : List (Option Entry)) (arcs : ℕ) (c : Candidate) → IsLawful net → length entries ≡ net.nodes + 1 → HaveSmallDistances entries
+    → arcs ≡ 2 * length net.arcs → IsNearestBelow net entries arcs (Some c) → IsCandidate net entries c
+IsCandidate-nearest net entries arcs c lawful size small is_arcs nearest =
+    let out = LeadsOut-from_distance net entries c.arc c.distance nearest.1 in
+    let ends = HasEnds-residual net c.arc lawful (omega (arith, nearest.0, is_arcs)) in
+    let leads : (residual net c.arc).to.0 ≡ c.node.0 = ap (λ (n : NodeId). n.0) nearest.2 in
+    let before = small (residual net c.arc).from.0 out.before out.from in
+    let from = lawful.small (residual net c.arc).from.0 (omega (arith, ends.from, lawful.sizes.potentials)) in
+    let to = lawful.small (residual net c.arc).to.0 (omega (arith, ends.to, lawful.sizes.potentials)) in
+    record {
+      there = omega (arith, leads, ends.to, size);
+      free = rw (← leads) out.to;
+      within = record {
+        low = omega (arith, ints, out.distance, before.low, ends.cost.low, from.high, to.low);
+        high = omega (arith, ints, out.distance, before.high, ends.cost.high, from.low, to.high);
+      };
+    }
+
+-- the search goes on with one node more
+pub IsSearching-more : (net : Network) (entries after : List (Option Entry)) (place arcs : ℕ) (c : Candidate) (told : ℤ) → IsLawful net → AreReduced net net.potentials → HaveSmallDistances entries
+    → IsSearching net entries place → arcs ≡ 2 * length net.arcs → IsNearestBelow net entries arcs (Some c) → told ≡ c.distance
+    → after ≡ set entries c.node.0 (Some (record { distance = told; by = Some c.arc; place = place })) → pos 0 ≤ℤ excess_at net c.node.0 → IsSearching net after (place + 1)
+IsSearching-more net entries after place arcs c told lawful reduced small searching is_arcs nearest is_told is least =
+    let new : Entry = record { distance = told; by = Some c.arc; place = place } in
+    let is_c = IsCandidate-nearest net entries arcs c lawful searching.taken.size small is_arcs nearest in
+    record {
+      last = c.distance;
+      taken = AreTaken-more net entries after searching.last told place arcs c lawful reduced searching.taken is_arcs nearest is_told is;
+      none = NoneLacks-more net entries after c.node.0 new is_c.there searching.none is least;
+      few = omega (arith, searching.few, free_count-taken entries c.node.0 new is_c.there is_c.free, ap free_count is, ap length is, length-set entries c.node.0 (Some new));
+    }
+
+-- and fewer nodes are left
+pub free_count-less : (net : Network) (entries after : List (Option Entry)) (c : Candidate) (new : Entry) → IsCandidate net entries c → after ≡ set entries c.node.0 (Some new)
+    → free_count after < free_count entries
+free_count-less net entries after c new is_c is = omega (arith, free_count-taken entries c.node.0 new is_c.there is_c.free, ap free_count is)

@@ -1,3 +1,4 @@
 pub mod Entries
 pub mod Searches
+pub mod Lifts
 pub mod Pushes

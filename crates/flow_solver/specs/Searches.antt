@@ -12,11 +12,11 @@ pub record AreSeeded (net : Network) (entries : List (Option Entry)) : Type 0 wh
   pub some : (v : ℕ) → v < length entries → pos 0 <ℤ excess_at net v → entry_at entries v ≡ Some (record { distance = pos 0; by = None; place = 0 })
   pub none : (v : ℕ) → v < length entries → excess_at net v ≤ℤ pos 0 → entry_at entries v ≡ None
 
--- of the nodes below this number those with excess are taken, and whether there are any is known
+-- of the nodes below this number those with excess are taken, and whether there are any is known, with the root
 pub record AreSeededBelow (net : Network) (entries : List (Option Entry)) (k : ℕ) (found : Bool) : Type 0 where
   pub some : (v : ℕ) → v < k → pos 0 <ℤ excess_at net v → entry_at entries v ≡ Some (record { distance = pos 0; by = None; place = 0 })
   pub none : (v : ℕ) → v < k → excess_at net v ≤ℤ pos 0 → entry_at entries v ≡ None
-  pub found_some : found ≡ true → (v : ℕ) × (v < k) × (pos 0 <ℤ excess_at net v)
+  pub found_some : found ≡ true → (v : ℕ) × (v < net.nodes + 1) × (pos 0 <ℤ excess_at net v)
   pub found_none : found ≡ false → (v : ℕ) → v < k → excess_at net v ≤ℤ pos 0
 
 -- so many nodes are taken, the last at this distance; their distances are a labelling

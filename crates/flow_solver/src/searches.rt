@@ -3,10 +3,14 @@ ghost use Rattle.residual.specs.Arcs.{reduced_cost};
 ghost use Rattle.residual.specs.Networks.{IsLawful, residual, excess_at};
 ghost use Rattle.residual.specs.Bounds.{IsSmall, IsWithin};
 ghost use Rattle.flow_solver.specs.Entries.{entry_at, distance_by, distance_over};
+ghost use Rattle.flow_solver.specs.Pushes.{IsTaken};
 ghost use Rattle.flow_solver.specs.Searches.{AreSeeded, AreTaken, NoneLacks, IsNearestBelow, HaveSmallDistances, nearer_of};
+ghost use Rattle.bud_base.specs.Soundness.{IsSound};
+ghost use Rattle.residual.specs.Networks.{Fits, AreReduced};
+ghost use Rattle.residual.specs.Balances.{HasRoom};
 
 use crate::entries::{Candidate, Entry};
-use bud_base::{NodeId, Steps};
+use bud_base::{NodeId, Problem, Steps};
 use residual::{Look, Net};
 use std::sync::ledger::Ledger;
 
@@ -15,11 +19,12 @@ pub fn seed(net: &Net, nodes: u32, entries: &mut [Option<Entry>]) -> bool
     requires nodes { net.now.nodes ≡ nodes }
     requires few { nodes ≤ 8388608 }
     requires size { length entries.old ≡ nodes + 1 }
+    ensures lawful { IsLawful net.now }
     ensures seeded { AreSeeded net.now entries.new }
     ensures some { IsTrue result → ((v : ℕ) × (v < length entries.new) × (pos 0 <ℤ excess_at net.now v)) }
     ensures none { result ≡ false → (v : ℕ) → v < length entries.new → excess_at net.now v ≤ℤ pos 0 }
 {
-    let mut found = false;
+    let mut found = net.excess(NodeId(nodes)) > 0;
     for node in 0..nodes + 1 {
         let place = node as usize;
         if net.excess(NodeId(node)) > 0 {
@@ -113,4 +118,48 @@ fn nearest<L: Ledger>(
         }
     }
     best
+}
+
+/// How many residual arcs the network of a problem has.
+fn key_count(problem: &Problem) -> usize
+    requires { IsSound problem.now }
+    ensures { result ≡ 2 * (length problem.now.items + length problem.now.items + length problem.now.starts + length problem.now.ends) }
+{
+    2 * (problem.items.len() + problem.items.len() + problem.starts.len() + problem.ends.len())
+}
+
+/// Takes the nearest node again and again, until it lacks flow.
+pub fn search<L: Ledger>(
+    net: &Net,
+    problem: &Problem,
+    entries: &mut [Option<Entry>],
+    steps: &mut Steps<L>,
+) -> Candidate
+    requires sound { IsSound problem.now }
+    requires fits { Fits net.now problem.now }
+    requires lawful { IsLawful net.now }
+    requires reduced { AreReduced net.now net.now.potentials }
+    requires room { HasRoom net.now }
+    requires seeded { AreSeeded net.now entries.old }
+    requires some { (v : ℕ) × (v < length entries.old) × (pos 0 <ℤ excess_at net.now v) }
+    ensures taken { (count : ℕ) × AreTaken net.now entries.new result.distance count }
+    ensures there { IsTaken entries.new result.node.0 }
+    ensures lacks { excess_at net.now result.node.0 <ℤ pos 0 }
+{
+    let arcs = key_count(problem);
+    let mut place = 1;
+    'nodes: loop {
+        let Some(candidate) = nearest(net, arcs, entries, steps) else {
+            unreachable!()
+        };
+        entries[candidate.node.0 as usize] = Some(Entry {
+            distance: candidate.distance,
+            by: Some(candidate.arc),
+            place,
+        });
+        place += 1;
+        if net.excess(candidate.node) < 0 {
+            return candidate;
+        }
+    }
 }

@@ -9,3 +9,4 @@ pub mod Freshness
 pub mod Ends
 pub mod Balance
 pub mod Theory
+pub mod Pushing

@@ -19,11 +19,23 @@ no_more result excess is within test = let same : to_z w128 (of_z w128 result) �
 there : (node nodes : ℕ) (entries before : List (Option Entry)) → node < nodes + 1 → length entries ≡ length before → length before ≡ nodes + 1 → node < length entries
 there node nodes entries before below same size = omega arith
 
+below_root : (node nodes root : ℕ) → node < nodes + 1 → root ≡ nodes → node < root + 1
+below_root node nodes root below same = omega arith
+
+pub loop-node-init : goal.loop-node-init
+loop-node-init c = record {
+  some = λ v below. absurd (omega arith);
+  none = λ v below. absurd (omega arith);
+  found_some = λ found. (c.args.nodes, omega (arith, c.requires.nodes), more _ _ c.excess-found.ensures.excess c.excess-found.ensures.small found);
+  found_none = λ found v below. absurd (omega arith);
+}
+
 pub loop-node-preserved : goal.loop-node-preserved
 loop-node-preserved c = elim c.if-excess-gt0.branch [
   | then-excess-gt0 w ↦
       let some : pos 0 <ℤ excess_at c.args.net.now c.loop-node.node = more _ _ c.excess.ensures.excess c.excess.ensures.small w.if-excess-gt0.true in
-      AreSeededBelow-some _ _ _ _ _ _ (there c.loop-node.node _ _ _ c.loop-node-test.true c.loop-node.auto.entries c.requires.size) some w.entries-is w.found-is c.loop-node.invariant
+      AreSeededBelow-some _ _ _ _ _ _ (there c.loop-node.node _ _ _ c.loop-node-test.true c.loop-node.auto.entries c.requires.size)
+      (below_root _ _ _ c.loop-node-test.true c.requires.nodes) some w.entries-is w.found-is c.loop-node.invariant
   | else-excess-gt0 w ↦
       let none : excess_at c.args.net.now c.loop-node.node ≤ℤ pos 0 = no_more _ _ c.excess.ensures.excess c.excess.ensures.small w.if-excess-gt0.false in
       AreSeededBelow-none _ _ _ _ _ _ (there c.loop-node.node _ _ _ c.loop-node-test.true c.loop-node.auto.entries c.requires.size) none w.entries-is w.found-is c.loop-node.invariant
