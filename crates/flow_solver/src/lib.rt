@@ -2,4 +2,6 @@
 #![tactic(auto)]
 
 mod entries;
+mod pushes;
 mod searches;
+mod solving;

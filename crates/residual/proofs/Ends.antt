@@ -1,9 +1,9 @@
 -- The nodes and the cost of a residual arc, whatever the flow.
-use Rattle.std.proofs.Common.{◌≡◌, ◌==◌, ℕ, ℤ, pos, ◌-ℤ◌, ◌+◌, ◌*◌, ◌/◌, ◌%◌, ◌<◌, ◌^◌, List, length, arith, refl, Bool, true, false}
+use Rattle.std.proofs.Common.{◌≡◌, ◌==◌, ℕ, ℤ, pos, ◌-ℤ◌, ◌≤ℤ◌, ◌+◌, ◌*◌, ◌/◌, ◌%◌, ◌<◌, ◌^◌, List, length, arith, refl, Bool, true, false}
 use Rattle.std.proofs.lemmas.Int.{ints}
 use Rattle.bud_flow.specs.Sums.{number_at}
-use Rattle.residual.specs.Bounds.{IsSmall}
-use Rattle.residual.specs.Arcs.{arc_at, residual_of, residual_at, reduced_cost, CarryAll, JoinBelow}
+use Rattle.residual.specs.Bounds.{IsWithin, IsSmall}
+use Rattle.residual.specs.Arcs.{arc_at, residual_of, residual_at, reduced_cost, CanCarry, CarryAll, JoinBelow}
 use Rattle.residual.specs.Networks.{Network, IsKey, residual, IsLawful}
 use Rattle.residual.specs.declared.arcs.Arc.{Arc}
 use Rattle.residual.specs.declared.arcs.Look.{Look}
@@ -36,3 +36,12 @@ residual_of-to a flow other false = refl
 pub residual_of-reduced : (a : Arc) (flow other : ℤ) (b : Bool) (potentials : List ℤ) → reduced_cost potentials (residual_of a flow b) ≡ reduced_cost potentials (residual_of a other b)
 residual_of-reduced a flow other true potentials = refl
 residual_of-reduced a flow other false potentials = refl
+
+-- its room is small
+room-either : (a : Arc) (flow : ℤ) (b : Bool) → CanCarry a flow → IsWithin (pos (2 ^ 80)) (residual_of a flow b).room
+room-either a flow true carries = record { low = omega (arith, ints, carries.most); high = omega (arith, ints, carries.least, carries.limit) }
+room-either a flow false carries = record { low = omega (arith, ints, carries.least); high = omega (arith, ints, carries.most, carries.limit) }
+
+pub room-residual : (net : Network) (key : ℕ) → IsLawful net → IsKey net key → IsWithin (pos (2 ^ 80)) (residual net key).room
+room-residual net key lawful is_key =
+    room-either (arc_at net.arcs (key / 2)) (number_at net.flows (key / 2)) (key % 2 == 0) (lawful.flows (key / 2) (omega (arith, is_key)))

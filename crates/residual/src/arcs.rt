@@ -35,7 +35,8 @@ pub struct Look {
 /// What is left of the arc under a flow, or of its reverse.
 pub fn look_of(arc: Arc, flow: i128, is_forward: bool) -> Look
     requires { CanCarry arc flow }
-    ensures { result ≡ residual_of arc flow is_forward }
+    ensures look { result ≡ residual_of arc flow is_forward }
+    ensures room { IsWithin (pos (2 ^ 80)) result.room }
 {
     if is_forward {
         Look {
@@ -59,7 +60,8 @@ pub fn look_at(arcs: &[Arc], flows: &[i128], key: usize) -> Look
     requires key { key < 2 * length arcs.now }
     requires sizes { length flows.now ≡ length arcs.now }
     requires flow { CanCarry (arc_at arcs.now (key / 2)) (number_at flows.now (key / 2)) }
-    ensures { result ≡ residual_at arcs.now flows.now key }
+    ensures look { result ≡ residual_at arcs.now flows.now key }
+    ensures room { IsWithin (pos (2 ^ 80)) result.room }
 {
     look_of(arcs[key / 2], flows[key / 2], key % 2 == 0)
 }

@@ -85,6 +85,7 @@ impl Net {
         ensures from { result.from.0 < self.now.nodes + 1 }
         ensures to { result.to.0 < self.now.nodes + 1 }
         ensures cost { IsSmall result.cost }
+        ensures room { IsWithin (pos (2 ^ 80)) result.room }
         ensures lawful { IsLawful self.now }
         ensures steps { steps.new ≡ steps.old + 1 }
     {
