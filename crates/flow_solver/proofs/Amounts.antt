@@ -1,8 +1,7 @@
 -- The least room on the way back.
-use Rattle.std.proofs.Common.{◌≡◌, ◌==◌, ◌≢◌, ℕ, ℤ, pos, ◌+ℤ◌, ◌-ℤ◌, ◌≤ℤ◌, ◌<ℤ◌, ◌+◌, ◌*◌, ◌<◌, ◌≤◌, ◌^◌, ◌⊎◌, List, length, Option, Some, None, arith, refl, ap, sym, subst, ◌∙◌, inl, inr}
+use Rattle.std.proofs.Common.{◌≡◌, ℕ, ℤ, pos, ◌-ℤ◌, ◌≤ℤ◌, ◌<ℤ◌, ◌<◌, ◌^◌, ◌⊎◌, List, Option, Some, None, arith, ap, sym, subst, ◌∙◌, inl, inr}
 use Rattle.std.proofs.lemmas.Int.{ints}
-use Rattle.residual.specs.Bounds.{IsWithin}
-use Rattle.residual.specs.Networks.{Network, IsKey, residual, excess_at}
+use Rattle.residual.specs.Networks.{Network, residual, excess_at}
 use Rattle.flow_solver.specs.Entries.{entry_at, by_of, by_at, place_of, place_at}
 use Rattle.flow_solver.specs.Pushes.{from_of, OnWay, here, back, IsTightOver, IsTree, IsTaken, FitsAt, IsAmount}
 use Rattle.flow_solver.proofs.Ways.{from_of-residual, OnWay-split, OnWay-end}

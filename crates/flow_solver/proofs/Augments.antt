@@ -1,22 +1,22 @@
 -- What one augmentation settles.
-use Rattle.std.proofs.Common.{◌≡◌, ◌==◌, ◌≢◌, ℕ, ℤ, pos, negsuc, ◌+ℤ◌, ◌-ℤ◌, ◌≤ℤ◌, ◌<ℤ◌, ◌+◌, ◌*◌, ◌/◌, ◌%◌, ◌<◌, ◌≤◌, ◌^◌, ◌⊎◌, List, [], length, Option, Some, None, arith, refl, ap, sym, subst, ◌∙◌, inl, inr, cond, Bool, true, false, eq-eqb}
+use Rattle.std.proofs.Common.{◌≡◌, ◌==◌, ◌≢◌, ℕ, ℤ, pos, negsuc, ◌+ℤ◌, ◌-ℤ◌, ◌≤ℤ◌, ◌<ℤ◌, ◌+◌, ◌*◌, ◌<◌, List, length, Option, Some, None, arith, refl, ap, sym, subst, ◌∙◌, inl, inr, cond, Bool, true, false, eq-eqb}
 use Rattle.std.specs.Prelude.{int_lt, nat_lt}
 use Rattle.std.proofs.lemmas.Int.{ints, by_lt_z}
 use Rattle.std.proofs.lemmas.Bool.{cases_eq, cases_lt, ne_eqb}
 use Rattle.std.proofs.lemmas.List.{get_or_past}
 use Rattle.bud_base.specs.declared.problems.Problem.{Problem}
 use Rattle.bud_flow.specs.Sums.{sum_below, number_at}
-use Rattle.residual.specs.Arcs.{arc_at, full, residual_of, residual_at}
-use Rattle.residual.specs.Networks.{Network, IsKey, residual, excess_at, AreReduced, IsLawful, Fits}
+use Rattle.residual.specs.Arcs.{arc_at}
+use Rattle.residual.specs.Networks.{Network, residual, excess_at, IsLawful, Fits}
 use Rattle.residual.specs.Balances.{above, surplus, HasRoom, HasNoExcess}
 use Rattle.residual.proofs.Balance.{sum_below-least, sum_below-all_zero, excess_of-total}
 use Rattle.residual.proofs.Changes.{sum_below-changed}
 use Rattle.residual.proofs.Pairs.{residual_at-arc}
 use Rattle.residual.specs.declared.arcs.Arc.{Arc}
 use Rattle.residual.specs.declared.arcs.Look.{Look}
-use Rattle.flow_solver.specs.Entries.{entry_at, by_of, by_at, place_at}
+use Rattle.flow_solver.specs.Entries.{entry_at, by_at, place_at}
 use Rattle.flow_solver.specs.Lifts.{with_potentials}
-use Rattle.flow_solver.specs.Pushes.{OnWay, IsTree, IsTaken, FitsAt, IsAmount, SameNetwork, IsPushed, IsAugmented}
+use Rattle.flow_solver.specs.Pushes.{IsTaken, FitsAt, IsAmount, SameNetwork, IsPushed, IsAugmented}
 use Rattle.flow_solver.specs.Rounds.{HasSlack}
 use Rattle.flow_solver.specs.declared.entries.Entry.{Entry}
 

@@ -1,25 +1,23 @@
 -- Labellings, and potentials lifted by them.
-use Rattle.std.proofs.Common.{◌≡◌, ◌≢◌, ℕ, ℤ, pos, negsuc, ◌+ℤ◌, ◌-ℤ◌, ◌≤ℤ◌, ◌<ℤ◌, ◌+◌, ◌*◌, ◌<◌, ◌≤◌, ◌^◌, List, [], ◌∷◌, map, length, set, Option, Some, None, arith, refl, ap, sym, subst, ◌∙◌, inl, inr, cond, Bool, true, false, get_or-set_same, get_or-set_other}
+use Rattle.std.proofs.Common.{◌≡◌, ℕ, ℤ, pos, ◌+ℤ◌, ◌-ℤ◌, ◌<ℤ◌, ◌+◌, ◌<◌, List, map, Option, Some, None, arith, refl, ap, sym, ◌∙◌, inl, inr, Bool, true, false}
 use Rattle.std.specs.Prelude.{int_lt}
 use Rattle.std.specs.List.{range_with_len}
 use Rattle.std.proofs.lemmas.Int.{ints}
-use Rattle.std.proofs.lemmas.Bool.{cases_eq, cases_lt}
+use Rattle.std.proofs.lemmas.Bool.{cases_lt}
 use Rattle.std.proofs.lemmas.List.FromFn.{get_or-map-range_with_len}
 use Rattle.bud_base.specs.Soundness.{IsSound}
 use Rattle.bud_base.specs.declared.problems.Problem.{Problem}
 use Rattle.bud_flow.specs.Sums.{number_at}
 use Rattle.residual.specs.Bounds.{IsWithin}
 use Rattle.residual.specs.Arcs.{reduced_cost}
-use Rattle.residual.specs.Networks.{Network, IsKey, residual, AreReduced, IsLawful, Fits, excess_at}
+use Rattle.residual.specs.Networks.{Network, residual, AreReduced, IsLawful, Fits}
 use Rattle.residual.specs.Balances.{HasRoom}
-use Rattle.residual.proofs.Ends.{HasEnds, HasEnds-residual}
+use Rattle.residual.proofs.Ends.{HasEnds-residual}
 use Rattle.residual.proofs.Theory.{Suit-from_reduced, IsWithin-from_suit}
 use Rattle.residual.specs.declared.arcs.Look.{Look}
-use Rattle.flow_solver.specs.Entries.{entry_at, label_of, label_at, distance_by, distance_over, IsLabelling, IsReachedOver, HasCauseBy, IsEntry}
-use Rattle.flow_solver.specs.Searches.{AreSeeded, AreTaken, NoneLacks, IsNearestBelow, HaveSmallDistances}
+use Rattle.flow_solver.specs.Entries.{entry_at, distance_by, distance_over, IsLabelling}
 use Rattle.flow_solver.specs.Lifts.{AreLifted}
 use Rattle.flow_solver.specs.declared.entries.Entry.{Entry}
-use Rattle.flow_solver.specs.declared.entries.Candidate.{Candidate}
 
 -- an arc gains what the labels don't use up
 pub reduced_cost-lifted : (nodes : ℕ) (before after : List ℤ) (label : ℕ → ℤ) (look : Look) → AreLifted nodes before after label → look.from.0 < nodes + 1 → look.to.0 < nodes + 1

@@ -1,12 +1,11 @@
 -- Lifts of the nodes, one after another, and what they leave.
-use Rattle.std.proofs.Common.{◌≡◌, ◌≢◌, ℕ, ℤ, pos, ◌+ℤ◌, ◌-ℤ◌, ◌≤ℤ◌, ◌<ℤ◌, ◌+◌, ◌*◌, ◌<◌, ◌≤◌, ◌^◌, List, length, set, Option, Some, None, arith, refl, ap, sym, subst, ◌∙◌, inl, inr, Bool, true, false, get_or-set_same, get_or-set_other}
+use Rattle.std.proofs.Common.{◌≡◌, ℕ, ℤ, pos, ◌+ℤ◌, ◌-ℤ◌, ◌<ℤ◌, ◌+◌, ◌<◌, ◌^◌, List, length, set, Option, Some, None, arith, refl, ap, sym, subst, ◌∙◌, inl, inr, Bool, true, false, get_or-set_same, get_or-set_other}
 use Rattle.std.proofs.lemmas.Int.{ints}
 use Rattle.std.proofs.lemmas.Bool.{cases_eq}
 use Rattle.bud_base.specs.Soundness.{IsSound}
 use Rattle.bud_base.specs.declared.problems.Problem.{Problem}
 use Rattle.bud_flow.specs.Sums.{number_at}
 use Rattle.residual.specs.Bounds.{IsWithin}
-use Rattle.residual.specs.Arcs.{reduced_cost}
 use Rattle.residual.specs.Networks.{Network, IsKey, residual, excess_at, AreReduced, IsLawful, Fits}
 use Rattle.residual.specs.Balances.{HasRoom}
 use Rattle.residual.proofs.Ends.{HasEnds-residual}
@@ -15,7 +14,7 @@ use Rattle.flow_solver.specs.Entries.{entry_at, label_of, label_at, HasCauseBy, 
 use Rattle.flow_solver.specs.Searches.{AreTaken}
 use Rattle.flow_solver.specs.Lifts.{AreLifted, AreLiftedBelow, with_potentials}
 use Rattle.flow_solver.specs.Pushes.{IsTightOver, IsTree}
-use Rattle.flow_solver.proofs.Labels.{reduced_cost-lifted, AreReduced-lifted, label-within}
+use Rattle.flow_solver.proofs.Labels.{reduced_cost-lifted, label-within}
 use Rattle.flow_solver.proofs.Taking.{distance-within}
 use Rattle.flow_solver.specs.declared.entries.Entry.{Entry}
 

@@ -1,19 +1,18 @@
 -- Pushes on the way back, one after another.
-use Rattle.std.proofs.Common.{◌≡◌, ◌==◌, ◌≢◌, ℕ, ℤ, pos, ◌+ℤ◌, ◌-ℤ◌, ◌≤ℤ◌, ◌<ℤ◌, ◌+◌, ◌*◌, ◌/◌, ◌%◌, ◌<◌, ◌≤◌, ◌^◌, ◌⊎◌, List, [], length, Option, Some, None, arith, refl, ap, sym, subst, ◌∙◌, inl, inr, cond, Bool, true, false, eq-eqb}
+use Rattle.std.proofs.Common.{◌≡◌, ◌==◌, ℕ, ℤ, pos, ◌≤ℤ◌, ◌/◌, ◌%◌, ◌<◌, ◌≤◌, List, length, Option, Some, arith, refl, ap, sym, subst, ◌∙◌, inl, inr, cond, Bool, true, false}
 use Rattle.std.specs.Prelude.{nat_lt}
 use Rattle.std.proofs.lemmas.Int.{ints}
-use Rattle.std.proofs.lemmas.Bool.{cases_eq, cases_lt, cases_Bool}
+use Rattle.std.proofs.lemmas.Bool.{cases_eq, cases_lt}
 use Rattle.std.proofs.lemmas.Bool.Decides.{nat_tests}
 use Rattle.bud_base.specs.declared.ids.NodeId.{NodeId}
 use Rattle.bud_flow.specs.Sums.{number_at}
-use Rattle.residual.specs.Arcs.{arc_at, residual_of, residual_at, reduced_cost}
-use Rattle.residual.specs.Excesses.{excess_of, flows_after}
-use Rattle.residual.specs.Networks.{Network, IsKey, residual, excess_at, AreReduced, IsLawful}
-use Rattle.residual.proofs.Ends.{residual_of-from, residual_of-to, residual_of-reduced}
+use Rattle.residual.specs.Arcs.{arc_at, reduced_cost}
+use Rattle.residual.specs.Excesses.{flows_after}
+use Rattle.residual.specs.Networks.{Network, IsKey, residual, AreReduced, IsLawful}
+use Rattle.residual.proofs.Ends.{residual_of-to, residual_of-reduced}
 use Rattle.residual.proofs.Pushing.{excess_of-pushed, room-pushed, room-pushed_other}
-use Rattle.residual.specs.declared.arcs.Arc.{Arc}
-use Rattle.flow_solver.specs.Entries.{entry_at, by_of, by_at, place_of, place_at}
-use Rattle.flow_solver.specs.Pushes.{from_of, OnWay, here, back, IsTightOver, IsTree, IsTaken, FitsAt, IsAmount, SameNetwork, IsPushed}
+use Rattle.flow_solver.specs.Entries.{entry_at, by_at, place_at}
+use Rattle.flow_solver.specs.Pushes.{from_of, OnWay, here, back, IsTree, IsTaken, FitsAt, IsAmount, IsPushed}
 use Rattle.flow_solver.proofs.Ways.{from_of-residual}
 use Rattle.flow_solver.proofs.Amounts.{tight_at, place-falls}
 use Rattle.flow_solver.specs.declared.entries.Entry.{Entry}

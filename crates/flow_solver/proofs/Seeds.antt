@@ -1,9 +1,8 @@
 -- Nodes with excess, taken one after another.
-use Rattle.std.proofs.Common.{◌≡◌, ◌≢◌, ℕ, ℤ, pos, ◌≤ℤ◌, ◌<ℤ◌, ◌+◌, ◌<◌, List, length, set, Option, Some, None, arith, refl, ap, sym, subst, ◌∙◌, inl, inr, Bool, true, false, get_or-set_same, get_or-set_other}
+use Rattle.std.proofs.Common.{◌≡◌, ℕ, pos, ◌≤ℤ◌, ◌<ℤ◌, ◌+◌, ◌<◌, List, length, set, Option, Some, None, arith, sym, ◌∙◌, inl, inr, Bool, true, false, get_or-set_same, get_or-set_other}
 use Rattle.std.proofs.lemmas.Int.{ints}
 use Rattle.std.proofs.lemmas.Bool.{cases_eq}
 use Rattle.residual.specs.Networks.{Network, excess_at}
-use Rattle.flow_solver.specs.Entries.{entry_at}
 use Rattle.flow_solver.specs.Searches.{AreSeededBelow}
 use Rattle.flow_solver.specs.declared.entries.Entry.{Entry}
 

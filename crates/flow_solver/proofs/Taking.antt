@@ -1,5 +1,5 @@
 -- Nodes that are taken one after another, each the nearest.
-use Rattle.std.proofs.Common.{◌≡◌, ◌≢◌, ℕ, ℤ, pos, negsuc, ◌+ℤ◌, ◌-ℤ◌, ◌≤ℤ◌, ◌<ℤ◌, ◌+◌, ◌*◌, ◌<◌, ◌≤◌, ◌^◌, List, [], ◌∷◌, length, set, Option, Some, None, arith, refl, ap, sym, subst, ◌∙◌, inl, inr, zero, suc, get_or-set_same, get_or-set_other}
+use Rattle.std.proofs.Common.{◌≡◌, ℕ, ℤ, pos, ◌+ℤ◌, ◌≤ℤ◌, ◌<ℤ◌, ◌+◌, ◌*◌, ◌<◌, ◌≤◌, ◌^◌, List, [], ◌∷◌, length, set, Option, Some, None, arith, refl, ap, sym, subst, ◌∙◌, inl, inr, zero, suc, get_or-set_same, get_or-set_other}
 use Rattle.std.proofs.lemmas.Int.{ints, by_lt_z}
 use Rattle.std.proofs.lemmas.List.{get_or_past}
 use Rattle.std.proofs.lemmas.Bool.{cases_eq, cases_lt}
@@ -7,7 +7,6 @@ use Rattle.std.proofs.Math.ListN.{length-set}
 use Rattle.bud_base.specs.Soundness.{IsSound}
 use Rattle.bud_base.specs.declared.problems.Problem.{Problem}
 use Rattle.bud_base.specs.declared.ids.NodeId.{NodeId}
-use Rattle.bud_flow.specs.Sums.{sum_below, number_at}
 use Rattle.residual.specs.Bounds.{IsWithin}
 use Rattle.residual.specs.Arcs.{reduced_cost}
 use Rattle.residual.specs.Networks.{Network, IsKey, residual, AreReduced, IsLawful, Fits, excess_at}
@@ -15,9 +14,9 @@ use Rattle.residual.specs.Balances.{HasRoom}
 use Rattle.residual.proofs.Balance.{excess_of-total, sum_below-at_least}
 use Rattle.residual.proofs.Theory.{IsClosed, IsClosed-all}
 use Rattle.residual.proofs.Ends.{HasEnds-residual}
-use Rattle.flow_solver.specs.Entries.{entry_at, label_of, label_at, distance_over, IsLabelling, IsReachedOver, HasCauseBy, IsEntry}
+use Rattle.flow_solver.specs.Entries.{entry_at, label_of, label_at, distance_over, IsLabelling, HasCauseBy, IsEntry}
 use Rattle.flow_solver.specs.Searches.{AreSeeded, AreTaken, NoneLacks, IsNearestBelow, HaveSmallDistances}
-use Rattle.flow_solver.proofs.Labels.{label-within, LeadsOut, LeadsOut-from_distance, distance_over-some}
+use Rattle.flow_solver.proofs.Labels.{label-within, LeadsOut-from_distance, distance_over-some}
 use Rattle.flow_solver.specs.declared.entries.Entry.{Entry}
 use Rattle.flow_solver.specs.declared.entries.Candidate.{Candidate}
 

@@ -1,5 +1,5 @@
 -- Entries of a search: how each node that it took was reached.
-use Rattle.std.specs.Prelude.{◌≡◌, ℕ, ℤ, pos, ◌+◌, ◌<◌, ◌+ℤ◌, ◌<ℤ◌, ◌≤ℤ◌, Bool, true, false, Option, Some, None, List, length, slice_index_or, int_lt}
+use Rattle.std.specs.Prelude.{◌≡◌, ℕ, ℤ, pos, ◌<◌, ◌+ℤ◌, ◌<ℤ◌, ◌≤ℤ◌, Bool, true, false, Option, Some, None, List, slice_index_or, int_lt}
 use Rattle.residual.specs.Arcs.{reduced_cost}
 use Rattle.residual.specs.Networks.{Network, IsKey, residual, excess_at}
 use Rattle.flow_solver.specs.declared.entries.Entry.{Entry}

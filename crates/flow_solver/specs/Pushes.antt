@@ -1,7 +1,6 @@
 -- Amounts that are pushed back along the entries of a search.
-use Rattle.std.specs.Prelude.{◌≡◌, ◌==◌, ℕ, ℤ, pos, ◌+◌, ◌*◌, ◌<◌, ◌^◌, ◌+ℤ◌, ◌-ℤ◌, ◌<ℤ◌, ◌≤ℤ◌, ◌⊎◌, Bool, false, Option, Some, None, List, [], length, nat_lt, if◌then◌else◌}
+use Rattle.std.specs.Prelude.{◌≡◌, ◌==◌, ℕ, ℤ, pos, ◌+◌, ◌<◌, ◌+ℤ◌, ◌-ℤ◌, ◌<ℤ◌, ◌≤ℤ◌, ◌⊎◌, false, Option, Some, None, List, [], length, nat_lt, if◌then◌else◌}
 use Rattle.bud_flow.specs.Sums.{number_at}
-use Rattle.residual.specs.Bounds.{IsWithin}
 use Rattle.residual.specs.Arcs.{residual_at, reduced_cost}
 use Rattle.residual.specs.Networks.{Network, IsKey, residual, excess_at, AreReduced, IsLawful}
 use Rattle.residual.specs.Balances.{surplus}

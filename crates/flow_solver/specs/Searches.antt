@@ -1,7 +1,7 @@
 -- A search: the nodes that it took, and what it is looking for.
-use Rattle.std.specs.Prelude.{◌≡◌, ℕ, ℤ, pos, ◌+◌, ◌<◌, ◌≤◌, ◌+ℤ◌, ◌<ℤ◌, ◌≤ℤ◌, ◌^◌, Bool, true, false, Option, Some, None, List, length, int_le, if◌then◌else◌}
+use Rattle.std.specs.Prelude.{◌≡◌, ℕ, ℤ, pos, ◌+◌, ◌<◌, ◌<ℤ◌, ◌≤ℤ◌, ◌^◌, Bool, true, false, Option, Some, None, List, length, int_le, if◌then◌else◌}
 use Rattle.residual.specs.Bounds.{IsWithin}
-use Rattle.residual.specs.Networks.{Network, IsKey, residual, excess_at}
+use Rattle.residual.specs.Networks.{Network, residual, excess_at}
 use Rattle.flow_solver.specs.Entries.{entry_at, label_at, distance_over, IsLabelling, IsEntry}
 use Rattle.flow_solver.specs.declared.entries.Entry.{Entry}
 use Rattle.flow_solver.specs.declared.entries.Candidate.{Candidate}

@@ -1,8 +1,8 @@
 -- Sums over arcs against sums over nodes.
-use Rattle.std.proofs.Common.{◌≡◌, ◌==◌, ◌≢◌, ℕ, zero, suc, ℤ, pos, ◌+ℤ◌, ◌-ℤ◌, ◌*ℤ◌, ◌≤ℤ◌, ◌<ℤ◌, ◌+◌, ◌<◌, ◌≤◌, List, length, arith, refl, ap, sym, subst, ◌∙◌, inl, inr, ◌⊎◌, cond, Bool, true, false, add-one}
+use Rattle.std.proofs.Common.{◌≡◌, ℕ, zero, suc, ℤ, pos, ◌-ℤ◌, ◌*ℤ◌, ◌≤ℤ◌, ◌<◌, List, length, arith, refl, sym, ◌∙◌, inl, inr}
 use Rattle.std.proofs.lemmas.Bool.{cases_eq}
 use Rattle.std.proofs.lemmas.Int.{ints}
-use Rattle.std.proofs.Math.IntN.{*ℤ_comm, *ℤ-one, *ℤ-zero}
+use Rattle.std.proofs.Math.IntN.{*ℤ-zero}
 use Rattle.bud_flow.specs.Sums.{sum_below, sum_at, number_at}
 use Rattle.bud_flow.proofs.Ints.{mul-sub}
 use Rattle.bud_flow.proofs.SumLemmas.{sum_below-same, sum_below-sub, sum_below-none, sum_below-le, sum_at-exchange}

@@ -1,9 +1,9 @@
 -- The nodes and the cost of a residual arc, whatever the flow.
-use Rattle.std.proofs.Common.{◌≡◌, ◌==◌, ℕ, ℤ, pos, ◌-ℤ◌, ◌≤ℤ◌, ◌+◌, ◌*◌, ◌/◌, ◌%◌, ◌<◌, ◌^◌, List, length, arith, refl, Bool, true, false}
+use Rattle.std.proofs.Common.{◌≡◌, ◌==◌, ℕ, ℤ, pos, ◌+◌, ◌/◌, ◌%◌, ◌<◌, ◌^◌, List, length, arith, refl, Bool, true, false}
 use Rattle.std.proofs.lemmas.Int.{ints}
 use Rattle.bud_flow.specs.Sums.{number_at}
 use Rattle.residual.specs.Bounds.{IsWithin, IsSmall}
-use Rattle.residual.specs.Arcs.{arc_at, residual_of, residual_at, reduced_cost, CanCarry, CarryAll, JoinBelow}
+use Rattle.residual.specs.Arcs.{arc_at, residual_of, reduced_cost, CanCarry}
 use Rattle.residual.specs.Networks.{Network, IsKey, residual, IsLawful}
 use Rattle.residual.specs.declared.arcs.Arc.{Arc}
 use Rattle.residual.specs.declared.arcs.Look.{Look}

@@ -1,20 +1,20 @@
 -- The first state of a network: its potentials suit, and its flows are the first.
-use Rattle.std.proofs.Common.{get_or, [], inl, inr, ◌≡◌, ◌==◌, ℕ, ℤ, pos, negsuc, ◌+ℤ◌, ◌-ℤ◌, ◌≤ℤ◌, ◌<ℤ◌, ◌+◌, ◌*◌, ◌/◌, ◌<◌, ◌≤◌, ◌^◌, List, ◌++◌, map, length, arith, refl, ap, sym, subst, ◌∙◌, cond, Bool, true, false, length-append}
-use Rattle.std.specs.Prelude.{int_lt, All}
+use Rattle.std.proofs.Common.{get_or, [], inl, inr, ◌≡◌, ℕ, ℤ, pos, ◌-ℤ◌, ◌≤ℤ◌, ◌+◌, ◌*◌, ◌/◌, ◌<◌, ◌^◌, List, ◌++◌, map, length, arith, refl, ap, sym, subst, ◌∙◌, cond, Bool, true, false, length-append}
+use Rattle.std.specs.Prelude.{int_lt}
 use Rattle.std.proofs.lemmas.Int.{ints}
 use Rattle.std.proofs.lemmas.Bool.{cases_lt}
 use Rattle.std.proofs.lemmas.List.{get_or-map, length-map}
 use Rattle.bud_base.specs.Paths.{item_at, start_at, end_at, least_of, Meets}
-use Rattle.bud_base.specs.Soundness.{IsSound, IsSoundItem, IsSoundStart, IsSoundEnd}
+use Rattle.bud_base.specs.Soundness.{IsSound, IsSoundItem}
 use Rattle.bud_base.specs.declared.problems.Item.{Item}
 use Rattle.bud_base.specs.declared.problems.Start.{Start}
 use Rattle.bud_base.specs.declared.problems.End.{End}
 use Rattle.bud_base.specs.declared.problems.Problem.{Problem}
 use Rattle.bud_flow.specs.Sums.{number_at}
 use Rattle.bud_flow.specs.Arrivals.{Suit}
-use Rattle.residual.specs.Bounds.{IsWithin, IsSmall, AllWithin}
-use Rattle.residual.specs.Arcs.{arc_at, full, limited_arc, open_arc, start_arc, end_arc, HasSmallTimes, IsBetween, CanCarry, CarryAll, JoinBelow, first_flow, HoldsReduced}
-use Rattle.residual.specs.Networks.{Network, HasSizes, IsLawful, Fits, IsFresh, AreReduced}
+use Rattle.residual.specs.Bounds.{IsSmall, AllWithin}
+use Rattle.residual.specs.Arcs.{arc_at, full, limited_arc, open_arc, start_arc, end_arc, CanCarry, first_flow, HoldsReduced}
+use Rattle.residual.specs.Networks.{Network, IsLawful, Fits, IsFresh}
 use Rattle.residual.specs.Sweeps.{AreReached}
 use Rattle.residual.proofs.Blocks.{get_or-first, get_or-second, get_or-third, get_or-fourth, by_block}
 use Rattle.residual.proofs.Pairs.{HoldsPair, gap, HoldsReduced-from_pair}

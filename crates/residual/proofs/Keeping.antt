@@ -1,16 +1,14 @@
 -- The fields of a network after a lift and after a push.
-use Rattle.std.proofs.Common.{◌≡◌, ◌==◌, ℕ, ℤ, pos, ◌+ℤ◌, ◌-ℤ◌, ◌≤ℤ◌, ◌+◌, ◌*◌, ◌/◌, ◌%◌, ◌<◌, ◌^◌, List, length, set, arith, refl, ap, sym, subst, ◌∙◌, Bool, true, false}
+use Rattle.std.proofs.Common.{◌≡◌, ◌==◌, ℕ, ℤ, pos, ◌+ℤ◌, ◌≤ℤ◌, ◌+◌, ◌/◌, ◌%◌, ◌<◌, ◌^◌, List, length, set, arith, ap, sym, subst, ◌∙◌, Bool, true, false}
 use Rattle.std.proofs.lemmas.Int.{ints}
 use Rattle.bud_flow.specs.Sums.{number_at}
 use Rattle.residual.specs.Bounds.{IsWithin, AllWithin}
-use Rattle.residual.specs.Arcs.{arc_at, residual_of, residual_at, reduced_cost, CanCarry, CarryAll, HoldsReduced}
-use Rattle.residual.specs.Excesses.{excess_of, AreExcesses, forward, flows_after, excesses_after}
-use Rattle.residual.specs.Networks.{Network, IsKey, residual, AreReduced, HasSizes, IsLawful, excess_at}
-use Rattle.residual.specs.Insides.{network_of, IsKeeping}
-use Rattle.residual.proofs.Laws.{IsLawful-lifted, IsLawful-pushed, excess_of-within}
-use Rattle.residual.proofs.Changes.{AreExcesses-after, length-excesses_after}
+use Rattle.residual.specs.Arcs.{arc_at, residual_of, CanCarry}
+use Rattle.residual.specs.Excesses.{AreExcesses, forward, flows_after, excesses_after}
+use Rattle.residual.specs.Networks.{Network, IsKey, residual, IsLawful}
+use Rattle.residual.proofs.Laws.{excess_of-within}
+use Rattle.residual.proofs.Changes.{AreExcesses-after}
 use Rattle.residual.specs.declared.arcs.Arc.{Arc}
-use Rattle.residual.specs.declared.nets.Net.TheInside.{Inside}
 
 -- the network that a lift makes
 pub lifted_is : (before : Network) (net : Network) (v : ℕ) (by time : ℤ) (new : List ℤ) → before ≡ net

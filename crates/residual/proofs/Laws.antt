@@ -1,13 +1,13 @@
 -- The law of a network under lifts and pushes.
-use Rattle.std.proofs.Common.{◌≡◌, ◌==◌, ◌≢◌, ℕ, zero, suc, ℤ, pos, ◌+ℤ◌, ◌-ℤ◌, ◌≤ℤ◌, ◌<ℤ◌, ◌+◌, ◌*◌, ◌/◌, ◌%◌, ◌<◌, ◌≤◌, ◌^◌, List, length, set, arith, refl, ap, sym, subst, ◌∙◌, inl, inr, cond, Bool, true, false, get_or-set_same, get_or-set_other}
+use Rattle.std.proofs.Common.{◌≡◌, ◌==◌, ℕ, zero, suc, ℤ, pos, ◌+ℤ◌, ◌-ℤ◌, ◌≤ℤ◌, ◌<ℤ◌, ◌*◌, ◌/◌, ◌%◌, ◌<◌, ◌≤◌, ◌^◌, List, length, set, arith, refl, sym, subst, ◌∙◌, inl, inr, cond, Bool, true, false, get_or-set_same, get_or-set_other}
 use Rattle.std.proofs.lemmas.Int.{ints}
 use Rattle.std.proofs.lemmas.Bool.{cases_eq}
 use Rattle.std.proofs.Math.ListN.{length-set}
-use Rattle.bud_flow.specs.Sums.{sum_below, sum_at, number_at}
-use Rattle.residual.specs.Bounds.{IsWithin, AllWithin}
-use Rattle.residual.specs.Arcs.{arc_at, full, residual_of, residual_at, reduced_cost, CanCarry, CarryAll, HoldsReduced}
-use Rattle.residual.specs.Excesses.{excess_of, excess_below, AreExcesses, forward, flows_after}
-use Rattle.residual.specs.Networks.{Network, IsKey, residual, AreReduced, HasSizes, IsLawful}
+use Rattle.bud_flow.specs.Sums.{sum_at, number_at}
+use Rattle.residual.specs.Bounds.{IsWithin}
+use Rattle.residual.specs.Arcs.{arc_at, residual_of, residual_at, reduced_cost, CanCarry, CarryAll, HoldsReduced}
+use Rattle.residual.specs.Excesses.{excess_of, excess_below, forward, flows_after}
+use Rattle.residual.specs.Networks.{Network, IsKey, residual, AreReduced, IsLawful}
 use Rattle.residual.proofs.Within.{AllWithin-set}
 use Rattle.residual.specs.declared.arcs.Arc.{Arc}
 

@@ -1,5 +1,5 @@
 -- An arc and its reverse together.
-use Rattle.std.proofs.Common.{◌≡◌, ◌==◌, ℕ, ℤ, pos, ◌+ℤ◌, ◌-ℤ◌, ◌≤ℤ◌, ◌<ℤ◌, ◌+◌, ◌*◌, ◌/◌, ◌%◌, ◌<◌, List, length, arith, refl, ap, sym, subst, ◌∙◌, Bool, true, false}
+use Rattle.std.proofs.Common.{◌≡◌, ◌==◌, ℕ, ℤ, pos, ◌+ℤ◌, ◌-ℤ◌, ◌≤ℤ◌, ◌<ℤ◌, ◌+◌, ◌*◌, ◌/◌, ◌%◌, ◌<◌, List, length, arith, ap, subst, ◌∙◌, Bool, true, false}
 use Rattle.std.proofs.lemmas.Int.{ints}
 use Rattle.bud_flow.specs.Sums.{number_at}
 use Rattle.residual.specs.Arcs.{arc_at, residual_of, residual_at, reduced_cost, HoldsReduced}

@@ -1,5 +1,5 @@
 -- Excesses and rooms after an amount went over a residual arc.
-use Rattle.std.proofs.Common.{◌≡◌, ◌==◌, ◌≢◌, ℕ, ℤ, pos, ◌+ℤ◌, ◌-ℤ◌, ◌≤ℤ◌, ◌<ℤ◌, ◌+◌, ◌*◌, ◌/◌, ◌%◌, ◌<◌, List, length, set, arith, refl, ap, sym, subst, ◌∙◌, inl, inr, cond, Bool, true, false, eq-eqb, get_or-set_same, get_or-set_other}
+use Rattle.std.proofs.Common.{◌≡◌, ◌==◌, ◌≢◌, ℕ, ℤ, pos, ◌+ℤ◌, ◌-ℤ◌, ◌≤ℤ◌, ◌*◌, ◌/◌, ◌%◌, ◌<◌, List, length, arith, refl, ap, sym, ◌∙◌, inl, inr, cond, Bool, true, false, eq-eqb, get_or-set_same, get_or-set_other}
 use Rattle.std.proofs.lemmas.Int.{ints}
 use Rattle.std.proofs.lemmas.Bool.{cases_eq, ne_eqb}
 use Rattle.bud_flow.specs.Sums.{number_at}
@@ -7,7 +7,6 @@ use Rattle.residual.specs.Arcs.{arc_at, residual_of, residual_at}
 use Rattle.residual.specs.Excesses.{excess_of, forward, flows_after}
 use Rattle.residual.proofs.Changes.{excess_of-set}
 use Rattle.residual.specs.declared.arcs.Arc.{Arc}
-use Rattle.residual.specs.declared.arcs.Look.{Look}
 
 cond-less : (b : Bool) (a : ℤ) → cond b (pos 0 -ℤ a) (pos 0) ≡ pos 0 -ℤ cond b a (pos 0)
 cond-less true a = refl
@@ -64,20 +63,21 @@ room-pushed_other arcs flows key k amount is_key sizes least differs = elim (cas
       (λ e. differs (same_key same (same_rest (key % 2) (k % 2) (omega arith) (omega arith) e))))
   | inr other ↦ rw (get_or-set_other flows (key / 2) (k / 2) (number_at flows (key / 2) +ℤ forward key amount) (pos 0) other) (omega (arith, ints))
 ]
-    where
+  where
     same_rest : (r s : ℕ) → r < 2 → s < 2 → (r == 0) ≡ (s == 0) → r ≡ s
     same_rest r s r_small s_small e = elim (cases_eq r 0) [
       | inl r_zero ↦ elim (cases_eq s 0) [
-          | inl s_zero ↦ omega arith
-          | inr s_one ↦ absurd (bools (sym (eq-eqb r 0 r_zero) ∙ e ∙ ne_eqb s 0 s_one))
+        | inl s_zero ↦ omega arith
+        | inr s_one ↦ absurd (bools (sym (eq-eqb r 0 r_zero) ∙ e ∙ ne_eqb s 0 s_one))
       ]
       | inr r_one ↦ elim (cases_eq s 0) [
-          | inl s_zero ↦ absurd (bools (sym (eq-eqb s 0 s_zero) ∙ sym e ∙ ne_eqb r 0 r_one))
-          | inr s_one ↦ omega arith
+        | inl s_zero ↦ absurd (bools (sym (eq-eqb s 0 s_zero) ∙ sym e ∙ ne_eqb r 0 r_one))
+        | inr s_one ↦ omega arith
       ]
     ]
-        where
+      where
         bools : true ≡ false → ⊥
         bools e = cc
+
     same_key : k / 2 ≡ key / 2 → key % 2 ≡ k % 2 → k ≡ key
     same_key halves rests = omega arith

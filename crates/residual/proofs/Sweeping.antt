@@ -1,25 +1,24 @@
 -- Arrivals that are raised along items, and what they are when all items are relaxed.
-use Rattle.std.proofs.Common.{◌≡◌, ◌≢◌, ℕ, ℤ, pos, negsuc, ◌+ℤ◌, ◌-ℤ◌, ◌≤ℤ◌, ◌<ℤ◌, ◌+◌, ◌<◌, ◌≤◌, List, [], ◌∷◌, ◌++◌, length, set, Option, Some, None, arith, refl, ap, sym, subst, ◌∙◌, inl, inr, cond, Bool, true, false, get_or-set_same, get_or-set_other}
+use Rattle.std.proofs.Common.{◌≡◌, ◌≢◌, ℕ, ℤ, pos, negsuc, ◌+ℤ◌, ◌≤ℤ◌, ◌+◌, ◌<◌, List, [], ◌∷◌, ◌++◌, length, set, Option, Some, None, arith, refl, ap, sym, subst, ◌∙◌, inl, inr, cond, Bool, true, false, get_or-set_same, get_or-set_other}
 use Rattle.std.specs.Prelude.{int_lt, IsTrue}
-use Rattle.std.proofs.lemmas.Int.{ints, by_lt_z}
+use Rattle.std.proofs.lemmas.Int.{ints}
 use Rattle.std.proofs.lemmas.Bool.{cases_eq, cases_lt}
-use Rattle.std.proofs.lemmas.Grind.{common_steps}
 use Rattle.std.proofs.Math.ListN.{length-set}
 use Rattle.std.specs.Prelude.{replicate}
 use Rattle.std.proofs.lemmas.List.{length-replicate, get_or-replicate}
-use Rattle.bud_base.specs.Paths.{Path, IsPath, Joins, Meets, item_at, start_at, end_at, sum_along, least_of, room, slack}
+use Rattle.bud_base.specs.Paths.{Path, Joins, Meets, item_at, start_at, end_at, sum_along, least_of, slack}
 use Rattle.bud_base.specs.Orders.{IsOrder, node_at, IsReached, Reaches, IsCycle}
 use Rattle.bud_base.proofs.OrderLemmas.{IsCycle-none}
 use Rattle.bud_base.specs.Soundness.{IsSound, IsSoundItem, IsSoundStart, IsSoundEnd}
 use Rattle.bud_base.specs.Leaving.{leaving_from}
 use Rattle.bud_base.proofs.Joining.{Joins-append}
 use Rattle.bud_base.proofs.Sums.{sum_along-append}
-use Rattle.bud_base.proofs.LeavingLemmas.{IsFirstLeaving, leaving_from-some, leaving_from-none}
+use Rattle.bud_base.proofs.LeavingLemmas.{leaving_from-some, leaving_from-none}
 use Rattle.bud_base.specs.declared.ids.NodeId.{NodeId}
 use Rattle.bud_base.specs.declared.ids.ItemId.{ItemId}
 use Rattle.bud_base.specs.declared.problems.Problem.{Problem}
 use Rattle.bud_flow.specs.Sums.{number_at}
-use Rattle.bud_flow.specs.Arrivals.{SuitsItem, SuitsStart, SuitsEnd, Suit}
+use Rattle.bud_flow.specs.Arrivals.{SuitsItem, Suit}
 use Rattle.residual.specs.Bounds.{IsWithin}
 use Rattle.residual.specs.Sweeps.{raised, IsReachedAt, AreReached, Rise, SuitBefore, AreRelaxed, SuitStarts}
 

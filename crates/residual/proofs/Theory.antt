@@ -1,22 +1,21 @@
 -- What the law says of potentials, and of sets of nodes that arcs with room don't leave.
-use Rattle.std.proofs.Common.{◌≡◌, ℕ, ℤ, pos, negsuc, ◌+ℤ◌, ◌-ℤ◌, ◌≤ℤ◌, ◌<ℤ◌, ◌+◌, ◌*◌, ◌<◌, ◌≤◌, ◌^◌, List, [], ◌∷◌, length, arith, refl, ap, sym, subst, ◌∙◌, inl, inr, true, false}
+use Rattle.std.proofs.Common.{◌≡◌, ℕ, ℤ, pos, ◌≤ℤ◌, ◌<ℤ◌, ◌+◌, ◌*◌, ◌<◌, List, [], ◌∷◌, length, arith, refl, ap, sym, subst, ◌∙◌, inl, inr, true}
 use Rattle.std.proofs.lemmas.Int.{ints}
 use Rattle.std.proofs.lemmas.Bool.{cases_lt}
-use Rattle.bud_base.specs.Paths.{Joins, item_at, start_at, end_at, sum_along, least_of}
+use Rattle.bud_base.specs.Paths.{Joins, item_at, start_at, end_at, least_of}
 use Rattle.bud_base.specs.Orders.{IsReached, Reaches}
 use Rattle.bud_base.specs.Soundness.{IsSound}
-use Rattle.bud_base.specs.declared.ids.NodeId.{NodeId}
 use Rattle.bud_base.specs.declared.ids.ItemId.{ItemId}
 use Rattle.bud_base.specs.declared.problems.Problem.{Problem}
 use Rattle.bud_flow.specs.Sums.{number_at}
 use Rattle.bud_flow.specs.Arrivals.{Suit}
-use Rattle.bud_flow.proofs.ArrivalLemmas.{sum_along-le}
+use Rattle.bud_base.proofs.Sums.{sum_along-le_arrivals}
 use Rattle.residual.specs.Bounds.{IsWithin}
-use Rattle.residual.specs.Arcs.{arc_at, full, open_arc, start_arc, end_arc, residual_of, residual_at}
-use Rattle.residual.specs.Networks.{Network, IsKey, residual, AreReduced, HasSizes, IsLawful, Fits}
+use Rattle.residual.specs.Arcs.{arc_at, full, open_arc, start_arc, end_arc, residual_of}
+use Rattle.residual.specs.Networks.{Network, IsKey, residual, AreReduced, HasSizes, Fits}
 use Rattle.residual.specs.Balances.{HasRoom}
 use Rattle.residual.proofs.Pairs.{HoldsPair, HoldsPair-from_reduced, residual_at-arc, gap}
-use Rattle.residual.proofs.Sweeping.{sound_item, sound_start, sound_end, sum_along-least}
+use Rattle.residual.proofs.Sweeping.{sound_start, sound_end, sum_along-least}
 use Rattle.residual.specs.declared.arcs.Arc.{Arc}
 use Rattle.residual.specs.declared.arcs.Look.{Look}
 
@@ -61,7 +60,7 @@ IsWithin-from_suit p potential v sound suit is_node =
       low = omega (
         arith,
         ints,
-        sum_along-le p (least_of p) potential suit _ before.items v before.joined,
+        sum_along-le_arrivals p.items (least_of p) potential before.items _ v suit.items before.joined,
         sum_along-least p sound _ before.items v before.joined,
         suit.starts before.start before.within,
         (sound_start p before.start sound before.within).time.low,
@@ -69,7 +68,7 @@ IsWithin-from_suit p potential v sound suit is_node =
       high = omega (
         arith,
         ints,
-        sum_along-le p (least_of p) potential suit v behind.items _ behind.joined,
+        sum_along-le_arrivals p.items (least_of p) potential behind.items v _ suit.items behind.joined,
         sum_along-least p sound v behind.items _ behind.joined,
         suit.ends behind.end behind.within,
         (sound_end p behind.end sound behind.within).time.high,

@@ -1,5 +1,5 @@
 -- Networks without excess, and how much excess there is.
-use Rattle.std.specs.Prelude.{◌≡◌, ℕ, ℤ, pos, ◌+◌, ◌*◌, ◌<◌, ◌^◌, ◌<ℤ◌, ◌≤ℤ◌, false, List, length, int_lt, if◌then◌else◌}
+use Rattle.std.specs.Prelude.{◌≡◌, ℕ, ℤ, pos, ◌+◌, ◌<◌, ◌^◌, ◌<ℤ◌, ◌≤ℤ◌, false, length, int_lt, if◌then◌else◌}
 use Rattle.bud_base.specs.Paths.{item_at}
 use Rattle.bud_base.specs.declared.problems.Problem.{Problem}
 use Rattle.bud_flow.specs.Sums.{sum_below, number_at}

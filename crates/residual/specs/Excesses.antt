@@ -1,5 +1,5 @@
 -- What arcs carry to a node, and lists that tell it.
-use Rattle.std.specs.Prelude.{◌≡◌, ◌==◌, ℕ, ℤ, ◌<◌, ◌-ℤ◌, ◌+ℤ◌, ◌/◌, ◌%◌, pos, Bool, List, length, slice_set, if◌then◌else◌}
+use Rattle.std.specs.Prelude.{◌≡◌, ◌==◌, ℕ, ℤ, ◌<◌, ◌-ℤ◌, ◌+ℤ◌, ◌/◌, ◌%◌, pos, List, length, slice_set, if◌then◌else◌}
 use Rattle.bud_flow.specs.Sums.{number_at, sum_at}
 use Rattle.residual.specs.Arcs.{arc_at}
 use Rattle.residual.specs.declared.arcs.Arc.{Arc}

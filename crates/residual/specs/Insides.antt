@@ -1,9 +1,7 @@
 -- How the fields of a network keep its value.
-use Rattle.std.specs.Prelude.{◌≡◌, ℕ, ◌+◌, ◌<◌, List, ℤ, length}
-use Rattle.bud_flow.specs.Sums.{number_at}
+use Rattle.std.specs.Prelude.{◌≡◌, ◌+◌, length}
 use Rattle.residual.specs.Networks.{Network, IsLawful}
 use Rattle.residual.specs.Excesses.{AreExcesses}
-use Rattle.residual.specs.declared.arcs.Arc.{Arc}
 use Rattle.residual.specs.declared.nets.Net.TheInside.{Inside}
 
 abbrev pub network_of : Inside → Network

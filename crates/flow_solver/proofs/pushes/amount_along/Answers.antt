@@ -1,12 +1,11 @@
-use Rattle.std.proofs.Common.{◌≡◌, ◌<◌, ◌≤ℤ◌, ◌-ℤ◌, ◌^◌, ◌⊎◌, ℕ, ℤ, pos, to_z, of_z, arith, refl, sym, ap, subst, ◌∙◌, inl, inr}
+use Rattle.std.proofs.Common.{◌≡◌, ◌<◌, ◌-ℤ◌, ◌^◌, ◌⊎◌, ℕ, ℤ, pos, to_z, of_z, arith, refl, sym, ap, subst, ◌∙◌, inl, inr}
 use mir.Syntax.{w128}
 use mir.Val.{SFits}
 use Rattle.std.proofs.lemmas.Int.{ints, to_z-of_z}
 use Rattle.residual.specs.Bounds.{IsWithin}
-use Rattle.residual.specs.Networks.{Network, IsKey, residual, excess_at}
+use Rattle.residual.specs.Networks.{residual, excess_at}
 use Rattle.residual.specs.declared.arcs.Look.{Look}
 use Rattle.flow_solver.specs.Entries.{place_at}
-use Rattle.flow_solver.specs.Pushes.{IsAmount}
 use Rattle.flow_solver.proofs.Amounts.{IsMeasured, IsMeasured-first, IsMeasured-more, IsAmount-all, tight_at, place-falls}
 use Rattle.flow_solver.proofs.pushes.amount_along.Goals as goal
 

@@ -1,8 +1,6 @@
-use Rattle.std.proofs.Common.{◌≡◌, ◌<◌, ◌≤ℤ◌, ◌-ℤ◌, ◌^◌, ◌⊎◌, ℕ, ℤ, pos, to_z, of_z, arith, sym, ap, subst, ◌∙◌, inl, inr}
+use Rattle.std.proofs.Common.{◌≡◌, ◌<◌, ℤ, to_z, of_z, arith, sym, subst}
 use mir.Syntax.{w128}
 use Rattle.std.proofs.lemmas.Int.{ints, to_z-of_z}
-use Rattle.residual.specs.Bounds.{IsWithin}
-use Rattle.residual.specs.Networks.{Network, IsKey, residual, excess_at}
 use Rattle.residual.specs.declared.arcs.Look.{Look}
 use Rattle.flow_solver.specs.Entries.{place_at}
 use Rattle.flow_solver.specs.Pushes.{IsAmount, IsPushed}

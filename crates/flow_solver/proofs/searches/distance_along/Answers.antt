@@ -1,8 +1,7 @@
-use Rattle.std.proofs.Common.{◌≡◌, ℤ, pos, ◌+ℤ◌, ◌≤ℤ◌, ◌<ℤ◌, ◌^◌, Some, None, true, to_z, of_z, w64, arith, refl, sym, ap, subst, ◌∙◌}
+use Rattle.std.proofs.Common.{◌≡◌, pos, ◌+ℤ◌, Some, true, to_z, of_z, w64, arith, refl, sym, ap, ◌∙◌}
 use Rattle.std.specs.Prelude.{int_lt}
 use Rattle.std.proofs.lemmas.Int.{ints}
 use Rattle.residual.specs.Arcs.{reduced_cost}
-use Rattle.flow_solver.specs.Entries.{entry_at, distance_by}
 use Rattle.flow_solver.proofs.searches.distance_along.Goals as goal
 
 pub overflow_add-result : goal.overflow_add-result

@@ -1,11 +1,10 @@
-use Rattle.std.proofs.Common.{◌≡◌, ℕ, ℤ, List, Option, Some, pos, ◌+◌, ◌*◌, ◌<◌, ◌^◌, ◌<ℤ◌, ◌≤ℤ◌, false, length, to_z, of_z, w64, arith, refl, sym, ap, subst, ◌∙◌, set, get_or-set_same}
+use Rattle.std.proofs.Common.{◌≡◌, ℕ, ℤ, List, Option, pos, ◌+◌, ◌*◌, ◌^◌, ◌≤ℤ◌, false, length, to_z, of_z, w64, arith, refl, get_or-set_same}
 use mir.Syntax.{w128}
 use Rattle.std.specs.Prelude.{int_lt, None}
 use Rattle.std.proofs.lemmas.Int.{ints}
 use Rattle.bud_base.specs.declared.problems.Problem.{Problem}
 use Rattle.residual.specs.Bounds.{IsWithin}
-use Rattle.residual.specs.Networks.{Network, IsLawful, Fits, excess_at}
-use Rattle.flow_solver.specs.Searches.{AreTaken, IsNearestBelow}
+use Rattle.residual.specs.Networks.{Network, IsLawful, Fits}
 use Rattle.flow_solver.specs.declared.entries.Entry.{Entry}
 use Rattle.flow_solver.specs.declared.entries.Candidate.{Candidate}
 use Rattle.flow_solver.proofs.Taking.{IsSearching-seeded, IsSearching-more, IsCandidate, IsCandidate-nearest, HaveSmallDistances-taken, AreTaken-more, nearest-exists, free_count-less}

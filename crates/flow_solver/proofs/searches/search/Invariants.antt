@@ -1,5 +1,3 @@
-use Rattle.std.proofs.Common.{◌≤◌, ◌+◌, ℤ, length}
-use Rattle.flow_solver.specs.Searches.{AreTaken, NoneLacks}
 use Rattle.flow_solver.proofs.Taking.{free_count, IsSearching}
 use Rattle.flow_solver.proofs.searches.search.Given as goal
 

@@ -1,6 +1,3 @@
-use Rattle.std.proofs.Common.{◌≡◌, ◌<◌, ◌≤ℤ◌, ◌<ℤ◌, pos, false, ℕ, length, Some, None}
-use Rattle.std.specs.Prelude.{IsTrue}
-use Rattle.residual.specs.Networks.{excess_at}
 use Rattle.flow_solver.specs.Searches.{AreSeededBelow}
 use Rattle.flow_solver.proofs.searches.seed.Given as goal
 

@@ -1,6 +1,5 @@
-use Rattle.std.proofs.Common.{◌≡◌, ◌+◌, ◌<◌, ℕ, List, Option, length, arith, refl}
+use Rattle.std.proofs.Common.{◌≡◌, ◌+◌, ◌<◌, ℕ, arith, refl}
 use Rattle.flow_solver.proofs.Augments.{HasRoom-slack, HasNoExcess-none, surplus-falls}
-use Rattle.flow_solver.specs.declared.entries.Entry.{Entry}
 use Rattle.flow_solver.proofs.solving.settle.Goals as goal
 
 within : (v nodes of_net of_old count of_seed before first : ℕ) → v < of_net + 1 → of_net ≡ of_old → of_old ≡ nodes → first ≡ nodes + 1 → before ≡ first → of_seed ≡ before → v < of_seed

@@ -1,9 +1,8 @@
-use Rattle.std.proofs.Common.{◌≡◌, ◌<◌, ℤ, pos, ◌^◌, to_z, of_z, arith, sym, subst, length}
+use Rattle.std.proofs.Common.{◌≡◌, ℤ, pos, ◌^◌, to_z, of_z, arith, sym, subst}
 use mir.Syntax.{w128}
 use Rattle.std.proofs.lemmas.Int.{ints}
 use Rattle.bud_flow.specs.Sums.{number_at}
 use Rattle.residual.specs.Bounds.{IsWithin}
-use Rattle.residual.specs.Excesses.{excess_below}
 use Rattle.residual.proofs.Laws.{excess_below-within}
 use Rattle.residual.proofs.Changes.{excess_below-more}
 use Rattle.residual.proofs.arcs.fill_excesses.Goals as goal

@@ -1,4 +1,4 @@
-use Rattle.std.proofs.Common.{◌≡◌, ◌<◌, ℤ, List, arith, length, to_z, of_z, w64, subst, sym}
+use Rattle.std.proofs.Common.{◌≡◌, ◌<◌, ℤ, List, arith, length, to_z, of_z, w64, subst}
 use Rattle.std.proofs.lemmas.Int.{ints}
 use Rattle.bud_base.specs.Paths.{start_at}
 use Rattle.bud_base.specs.declared.problems.Start.{Start}

@@ -1,4 +1,3 @@
-use Rattle.std.proofs.Common.{◌≡◌}
 use Rattle.residual.specs.Sweeps.{AreReached, SuitStarts}
 use Rattle.residual.proofs.arrivals.begin.Given as goal
 

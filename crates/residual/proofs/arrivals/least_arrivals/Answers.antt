@@ -1,5 +1,4 @@
-use Rattle.std.proofs.Common.{◌≡◌, ℤ, List, length, subst, sym, ◌∙◌}
-use Rattle.std.specs.Vec.{with_items}
+use Rattle.std.proofs.Common.{ℤ, List, subst, sym, ◌∙◌}
 use Rattle.std.proofs.lemmas.List.{with_items_is}
 use Rattle.bud_base.specs.Paths.{least_of}
 use Rattle.bud_flow.specs.Arrivals.{Suit}

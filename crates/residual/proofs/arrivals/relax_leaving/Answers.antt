@@ -1,10 +1,10 @@
-use Rattle.std.proofs.Common.{◌≡◌, ◌<◌, ◌+ℤ◌, ℕ, ℤ, List, sym, ◌∙◌, ap, subst, arith, length}
+use Rattle.std.proofs.Common.{◌≡◌, ◌<◌, ◌+ℤ◌, List, sym, ◌∙◌, ap, subst, arith, length}
 use Rattle.bud_base.specs.Paths.{item_at}
 use Rattle.bud_base.specs.declared.problems.Item.{Item}
 use Rattle.bud_base.proofs.Trials.{rest_of, rest_of-next}
 use Rattle.bud_flow.specs.Sums.{number_at}
 use Rattle.residual.specs.Sweeps.{raised}
-use Rattle.residual.proofs.Sweeping.{IsNextItem, IsNextItem-from_relaxed, AreRelaxed-first, AreRelaxed-more, SuitBefore-more, AreReached-within, sound_item}
+use Rattle.residual.proofs.Sweeping.{IsNextItem, IsNextItem-from_relaxed, AreRelaxed-more, SuitBefore-more, AreReached-within, sound_item}
 use Rattle.residual.proofs.arrivals.relax_leaving.Goals as goal
 use Rattle.residual.proofs.arrivals.relax_leaving.Goals.{In-Some}
 

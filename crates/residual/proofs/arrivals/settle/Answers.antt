@@ -1,4 +1,4 @@
-use Rattle.std.proofs.Common.{◌≡◌, Bool, false, List, subst, sym, ◌∙◌}
+use Rattle.std.proofs.Common.{◌≡◌, Bool, false, List, subst, sym}
 use Rattle.std.specs.Prelude.{IsTrue}
 use Rattle.bud_base.specs.Orders.{IsOrder, IsCycle}
 use Rattle.bud_base.specs.declared.ids.NodeId.{NodeId}

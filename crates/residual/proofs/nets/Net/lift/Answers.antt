@@ -1,16 +1,12 @@
-use Rattle.std.proofs.Common.{rules, ◌≡◌, ◌<◌, ◌+◌, ◌≤ℤ◌, ◌+ℤ◌, ◌-ℤ◌, ◌^◌, pos, false, true, slice_set, length, ℕ, ◌-◌, ◌*◌, ◌≤◌, ◌/◌, ◌%◌, Bool, nat_eq, nat_lt, List, [], ◌∷◌, ◌++◌, slice_index_or, ℤ, ◌*ℤ◌, ◌<ℤ◌, to_z, of_z, w64, arith, set, refl, sym, ap, subst, ◌∙◌}
-use Rattle.std.proofs.lemmas.Int.{ints, to_z-of_z}
+use Rattle.std.proofs.Common.{◌≡◌, ◌+ℤ◌, length, List, ℤ, to_z, of_z, w64, arith, set, refl, sym, subst, ◌∙◌}
+use Rattle.std.proofs.lemmas.Int.{ints}
 use Rattle.std.specs.Vec.{with_items}
 use Rattle.std.proofs.lemmas.List.{with_items_is}
-use Rattle.residual.specs.Excesses.{AreExcesses, forward, excesses_after}
-use Rattle.residual.proofs.Changes.{length-excesses_after}
 use Rattle.bud_flow.specs.Sums.{number_at}
-use Rattle.residual.specs.Arcs.{arc_at, reduced_cost}
-use Rattle.residual.specs.Bounds.{IsWithin, AllWithin}
-use Rattle.residual.specs.Networks.{Network, IsKey, residual, IsLawful, AreReduced, excess_at}
-use Rattle.residual.specs.Insides.{network_of, IsKeeping}
-use Rattle.residual.proofs.Laws.{IsLawful-lifted, IsLawful-pushed, excess_of-within}
-use Rattle.residual.proofs.Keeping.{lifted_is, pushed_is, excesses-within, amount-within, AreExcesses-pushed}
+use Rattle.residual.specs.Networks.{Network, IsLawful}
+use Rattle.residual.specs.Insides.{network_of}
+use Rattle.residual.proofs.Laws.{IsLawful-lifted}
+use Rattle.residual.proofs.Keeping.{lifted_is}
 use Rattle.residual.proofs.nets.Net.lift.Goals as goal
 
 -- the law, which the network had before, holds of the network that the lift makes

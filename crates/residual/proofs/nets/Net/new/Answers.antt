@@ -1,4 +1,4 @@
-use Rattle.std.proofs.Common.{◌≡◌, ◌+◌, ◌<◌, ◌++◌, ◌^◌, ℕ, ℤ, pos, List, map, length, sym, ◌∙◌, ap, subst}
+use Rattle.std.proofs.Common.{◌≡◌, ◌+◌, ◌++◌, ◌^◌, ℤ, pos, List, map, sym, ◌∙◌, subst}
 use Rattle.bud_base.specs.Paths.{least_of}
 use Rattle.bud_base.specs.declared.problems.Item.{Item}
 use Rattle.bud_base.specs.declared.problems.Start.{Start}
@@ -9,10 +9,8 @@ use Rattle.bud_flow.specs.Arrivals.{Suit}
 use Rattle.residual.specs.Bounds.{AllWithin}
 use Rattle.residual.specs.Arcs.{limited_arc, open_arc, start_arc, end_arc, first_flow, JoinBelow, CarryAll}
 use Rattle.residual.specs.Excesses.{AreExcesses}
-use Rattle.residual.specs.Networks.{Network, IsLawful, Fits, IsFresh}
-use Rattle.residual.specs.Insides.{network_of, IsKeeping}
 use Rattle.residual.specs.Sweeps.{AreReached}
-use Rattle.residual.proofs.Freshness.{AreFreshLists, fresh_network, AllWithin-reached, IsLawful-fresh, Fits-fresh, IsFresh-fresh}
+use Rattle.residual.proofs.Freshness.{AreFreshLists, AllWithin-reached, IsLawful-fresh, Fits-fresh, IsFresh-fresh}
 use Rattle.residual.specs.declared.arcs.Arc.{Arc}
 use Rattle.residual.proofs.nets.Net.new.Goals as goal
 

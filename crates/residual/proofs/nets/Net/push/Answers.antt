@@ -1,17 +1,16 @@
-use Rattle.std.proofs.Common.{rules, ◌≡◌, ◌<◌, ◌+◌, ◌≤ℤ◌, ◌+ℤ◌, ◌-ℤ◌, ◌^◌, pos, false, true, slice_set, length, ℕ, ◌-◌, ◌*◌, ◌≤◌, ◌/◌, ◌%◌, Bool, nat_eq, nat_lt, List, [], ◌∷◌, ◌++◌, slice_index_or, ℤ, ◌*ℤ◌, ◌<ℤ◌, to_z, of_z, w64, arith, set, refl, sym, ap, subst, ◌∙◌}
-use Rattle.std.proofs.lemmas.Int.{ints, to_z-of_z}
+use Rattle.std.proofs.Common.{◌≡◌, ◌+ℤ◌, ◌^◌, pos, length, ◌/◌, List, ℤ, to_z, of_z, arith, set, sym, ap, subst, ◌∙◌}
+use Rattle.std.proofs.lemmas.Int.{ints}
 use mir.Syntax.{w128}
 use Rattle.std.specs.Vec.{with_items}
 use Rattle.std.proofs.lemmas.List.{with_items_is}
 use Rattle.residual.specs.Excesses.{AreExcesses, forward, flows_after, excesses_after}
-use Rattle.residual.proofs.Changes.{length-excesses_after}
 use Rattle.bud_flow.specs.Sums.{number_at}
-use Rattle.residual.specs.Arcs.{arc_at, reduced_cost}
+use Rattle.residual.specs.Arcs.{arc_at}
 use Rattle.residual.specs.Bounds.{IsWithin, AllWithin}
-use Rattle.residual.specs.Networks.{Network, IsKey, residual, IsLawful, AreReduced, excess_at}
-use Rattle.residual.specs.Insides.{network_of, IsKeeping}
-use Rattle.residual.proofs.Laws.{IsLawful-lifted, IsLawful-pushed, excess_of-within}
-use Rattle.residual.proofs.Keeping.{lifted_is, pushed_is, excesses-within, amount-within, AreExcesses-pushed}
+use Rattle.residual.specs.Networks.{Network, IsKey, IsLawful}
+use Rattle.residual.specs.Insides.{network_of}
+use Rattle.residual.proofs.Laws.{IsLawful-pushed}
+use Rattle.residual.proofs.Keeping.{pushed_is, excesses-within, amount-within, AreExcesses-pushed}
 use Rattle.residual.proofs.nets.Net.push.Goals as goal
 
 pub forward_amount-amount-requires : goal.forward_amount-amount-requires
