@@ -6,6 +6,9 @@ use Rattle.bud_base.specs.declared.problems.Problem.{Problem}
 use Rattle.bud_base.specs.declared.texts.TextFault.{TextFault}
 use Rattle.bud_base.specs.declared.texts.TextFault.TheVariants.{Syntax, Value as OutOfRange, NoMemory}
 use Rattle.bud_base.specs.Soundness.{IsListable}
+use Rattle.bud_model.specs.Plans.{HasPlanNumbers}
+use Rattle.cert_text.specs.Certs.{plan_in}
+use Rattle.cert_text.specs.declared.certs.Cert.{Cert}
 use Rattle.bud_shelf.specs.Outside.{Files, IsFile, HasLength, IsMissing, Rose}
 use Rattle.bud_shelf.specs.declared.shelves.TheConstants.{LONGEST_FILE}
 use Rattle.budget_top.specs.declared.status.Status.{Status}
@@ -63,3 +66,7 @@ IsParsed reads name bytes (NoValue reply) = IsUnreadable reads name bytes reply.
 abbrev pub IsListableIfLoaded : Loaded Problem → Type 0
 IsListableIfLoaded (Value p) = IsListable p
 IsListableIfLoaded (NoValue reply) = Unit {0}
+
+abbrev pub HasNumbersIfLoaded : Loaded Cert → Type 0
+HasNumbersIfLoaded (Value cert) = HasPlanNumbers (plan_in cert)
+HasNumbersIfLoaded (NoValue reply) = Unit {0}

@@ -2,7 +2,9 @@ pub mod Codes
 pub mod Lines
 pub mod Replies
 pub mod Faults
+pub mod Certificates
 pub mod Words
 pub mod Inputs
 pub mod Raw
+pub mod Prove
 pub mod Runs

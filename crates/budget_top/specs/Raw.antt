@@ -29,13 +29,15 @@ IsMeasured p Done text = (HasNoPath p × (text ≡ no_paths_text)) ⊎ ((s : ℤ
 IsMeasured p Violated text = (s : ℤ) × ((path : Path) × (IsLeastSlack p s × (s <ℤ pos 0) × IsPathOfSlack p s path × (text ≡ violated_text p s path)))
 IsMeasured p _ text = ⊥
 
--- a problem that was read: it is sound and measured, or the first of its faults is named
+-- a problem that isn't sound, with the first of its faults
+abbrev pub IsUnsound : Problem → Status → List ℕ → Type 0
+IsUnsound p Design text = (fault : ProblemFault) × (IsDesignFault fault × IsCheckAnswer p (Err fault) × (text ≡ problem_text p.items fault))
+IsUnsound p Limit text = (count : ℕ) × (IsCheckAnswer p (Err (TooLarge count)) × (text ≡ problem_text p.items (TooLarge count)))
+IsUnsound p _ text = ⊥
+
+-- a problem that was read: the first of its faults is named, or it is sound and measured
 abbrev pub IsJudged : Problem → Status → List ℕ → Type 0
-IsJudged p Done text = IsSound p × IsMeasured p Done text
-IsJudged p Violated text = IsSound p × IsMeasured p Violated text
-IsJudged p Design text = (fault : ProblemFault) × (IsDesignFault fault × IsCheckAnswer p (Err fault) × (text ≡ problem_text p.items fault))
-IsJudged p Limit text = (count : ℕ) × (IsCheckAnswer p (Err (TooLarge count)) × (text ≡ problem_text p.items (TooLarge count)))
-IsJudged p _ text = ⊥
+IsJudged p status text = IsUnsound p status text ⊎ (IsSound p × IsMeasured p status text)
 
 -- the file is refused, or it holds a problem that is judged
 abbrev pub IsRaw : Option Files → ℕ → ℕ → List ℕ → Status → List ℕ → Type 0

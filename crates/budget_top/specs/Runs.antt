@@ -6,13 +6,15 @@ use Rattle.bud_shelf.specs.declared.sinks.SinkFault.TheVariants.{Failed, NoMemor
 use Rattle.budget_top.specs.declared.status.Status.{Status}
 use Rattle.budget_top.specs.declared.status.Status.TheVariants.{Fault, Words, Memory}
 use Rattle.budget_top.specs.Codes.{code_of}
-use Rattle.budget_top.specs.Words.{Asked, raw}
+use Rattle.budget_top.specs.Words.{Asked, raw, prove}
 use Rattle.budget_top.specs.Faults.{words_line, memory_line}
 use Rattle.budget_top.specs.Raw.{IsRaw}
+use Rattle.budget_top.specs.Prove.{IsProve}
 
 -- how a job ends, and what it prints
 abbrev pub IsReply : Asked → Option Files → ℕ → ℕ → Status → List ℕ → Type 0
 IsReply (raw problem) files before now status text = IsRaw files before now problem status text
+IsReply (prove problem cert) files before now status text = IsProve files before now problem cert status text
 
 -- words that fit no job say so
 abbrev pub IsOutcome : Option Asked → Option Files → ℕ → ℕ → Status → List ℕ → Type 0

@@ -1,11 +1,13 @@
 ghost use Rattle.std.specs.Prelude.{◌≡◌, ◌≤◌, IfOk, length, string_bytes};
-ghost use Rattle.budget_top.specs.Inputs.{IsFileAnswer, IsLoaded, IsParsed, IsListableIfLoaded};
+ghost use Rattle.budget_top.specs.Inputs.{IsFileAnswer, IsLoaded, IsParsed, IsListableIfLoaded, HasNumbersIfLoaded};
+ghost use Rattle.cert_text.specs.Texts.{IsReadAnswer as IsCertAnswer};
 ghost use Rattle.problem_text.specs.Problems.{IsReadAnswer as IsProblemAnswer};
 
 use crate::faults;
 use crate::status::{Reply, Status};
 use bud_base::{Problem, TextFault};
 use bud_shelf::{LONGEST_FILE, Shelf, ShelfFault};
+use cert_text::{Cert, read_cert};
 use problem_text::read_problem;
 use std::alloc::{AllocError, Global};
 
@@ -31,6 +33,23 @@ pub fn load_problem<S: Shelf>(
 {
     match read_file(alloc, shelf, name)? {
         Loaded::Value(text) => problem_of(alloc, name, text.as_slice()),
+        Loaded::Refused(reply) => Ok(Loaded::Refused(reply)),
+    }
+}
+
+/// Reads a certificate from the shelf.
+pub fn load_cert<S: Shelf>(
+    alloc: Global,
+    shelf: &mut S,
+    name: &str,
+) -> Result<Loaded<Cert>, AllocError>
+    ensures loaded { IfOk result (IsLoaded IsCertAnswer (S.files shelf.old) (S.faults shelf.old) (S.faults shelf.new) name.now) }
+    ensures numbers { IfOk result HasNumbersIfLoaded }
+    ensures files { S.files shelf.new ≡ S.files shelf.old }
+    ensures later { S.faults shelf.old ≤ S.faults shelf.new }
+{
+    match read_file(alloc, shelf, name)? {
+        Loaded::Value(text) => cert_of(alloc, name, text.as_slice()),
         Loaded::Refused(reply) => Ok(Loaded::Refused(reply)),
     }
 }
@@ -74,6 +93,25 @@ fn problem_of(alloc: Global, name: &str, text: &[u8]) -> Result<Loaded<Problem>,
 {
     match read_problem(alloc, text) {
         Ok(problem) => Ok(Loaded::Value(problem)),
+        Err(TextFault::NoMemory) => Err(AllocError),
+        Err(fault) => {
+            let text = faults::refused(alloc, name, fault)?;
+            Ok(Loaded::Refused(Reply {
+                status: Status::Refused,
+                text,
+            }))
+        }
+    }
+}
+
+/// The certificate that the bytes read as, or the reply that names their refusal.
+fn cert_of(alloc: Global, name: &str, text: &[u8]) -> Result<Loaded<Cert>, AllocError>
+    requires { length text.now ≤ LONGEST_FILE }
+    ensures parsed { IfOk result (IsParsed IsCertAnswer name.now text.now) }
+    ensures numbers { IfOk result HasNumbersIfLoaded }
+{
+    match read_cert(alloc, text) {
+        Ok(cert) => Ok(Loaded::Value(cert)),
         Err(TextFault::NoMemory) => Err(AllocError),
         Err(fault) => {
             let text = faults::refused(alloc, name, fault)?;

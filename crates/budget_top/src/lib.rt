@@ -1,9 +1,11 @@
 //! The jobs of the program, from the bytes that a shelf lends to the bytes that a sink takes.
 #![tactic(auto)]
 
+mod certificates;
 mod faults;
 mod inputs;
 mod lines;
+mod prove;
 mod raw;
 mod replies;
 mod run;

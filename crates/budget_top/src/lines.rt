@@ -18,6 +18,13 @@ pub fn put_time(text: &mut String, time: i64) -> Result<(), AllocError>
     write!(text, " {time}")
 }
 
+/// Writes a blank and a weight.
+pub fn put_weight(text: &mut String, weight: i128) -> Result<(), AllocError>
+    ensures { OnOk result (string_bytes text.new ≡ string_bytes text.old ++ time_field weight) }
+{
+    write!(text, " {weight}")
+}
+
 pub fn put_word(text: &mut String, word: &str) -> Result<(), AllocError>
     ensures { OnOk result (string_bytes text.new ≡ string_bytes text.old ++ word.now) }
 {

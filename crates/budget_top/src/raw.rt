@@ -1,6 +1,6 @@
 ghost use Rattle.std.specs.Prelude.{◌≡◌, ◌≤◌, IfOk, Err, string_bytes};
 ghost use Rattle.bud_base.specs.Soundness.{IsListable, IsSound, IsCheckAnswer};
-ghost use Rattle.budget_top.specs.Raw.{IsRaw, IsJudged, IsMeasured};
+ghost use Rattle.budget_top.specs.Raw.{IsRaw, IsUnsound, IsJudged, IsMeasured};
 
 use crate::faults;
 use crate::inputs::{Loaded, load_problem};
@@ -34,9 +34,10 @@ fn judge(alloc: Global, problem: &Problem) -> Result<Reply, AllocError>
     }
 }
 
-fn refuse(alloc: Global, problem: &Problem, fault: &ProblemFault) -> Result<Reply, AllocError>
+/// Names the first fault of a problem that isn't sound.
+pub fn refuse(alloc: Global, problem: &Problem, fault: &ProblemFault) -> Result<Reply, AllocError>
     requires { IsCheckAnswer problem.now (Err fault.now) }
-    ensures { IfOk result (λ reply. IsJudged problem.now reply.status (string_bytes reply.text)) }
+    ensures { IfOk result (λ reply. IsUnsound problem.now reply.status (string_bytes reply.text)) }
 {
     let status = match fault {
         ProblemFault::TooLarge(_) => Status::Limit,

@@ -4,8 +4,9 @@ ghost use Rattle.budget_top.specs.Words.{job_of, asked};
 ghost use Rattle.budget_top.specs.Runs.{IsRun, IsReply, IsPrinted, Ends, CallsFor, IsCalled};
 ghost use Rattle.budget_top.specs.Codes.{code_of};
 ghost use Rattle.budget_top.specs.declared.status.Status.{Status};
-ghost use Rattle.budget_top.specs.declared.status.Status.TheVariants.{Done, Violated, Words, Fault, Refused, Design, Limit};
+ghost use Rattle.budget_top.specs.declared.status.Status.TheVariants.{Done, Violated, Words, Fault, Refused, Design, Limit, Certificate};
 
+use crate::prove::prove;
 use crate::raw::raw;
 use crate::status::{Reply, Status, code};
 use crate::words::{Job, asked_job};
@@ -35,6 +36,7 @@ pub fn run_budget<S: Shelf, K: Sink>(
     ensures refused { result ≡ 4 → Ends (job_of (map string_bytes words.now)) (S.files shelf.old) (S.faults shelf.old) (S.faults shelf.new) (K.taken out.old) (K.taken out.new) Refused }
     ensures design { result ≡ 5 → Ends (job_of (map string_bytes words.now)) (S.files shelf.old) (S.faults shelf.old) (S.faults shelf.new) (K.taken out.old) (K.taken out.new) Design }
     ensures limit { result ≡ 6 → Ends (job_of (map string_bytes words.now)) (S.files shelf.old) (S.faults shelf.old) (S.faults shelf.new) (K.taken out.old) (K.taken out.new) Limit }
+    ensures certificate { result ≡ 7 → Ends (job_of (map string_bytes words.now)) (S.files shelf.old) (S.faults shelf.old) (S.faults shelf.new) (K.taken out.old) (K.taken out.new) Certificate }
     ensures range { result ≤ 8 }
 
     // A shelf that tells its files calls for one status, and no other comes unless memory is wanting or a count rises.
@@ -65,6 +67,7 @@ fn done<S: Shelf>(alloc: Global, job: Job<'_>, shelf: &mut S) -> Result<Reply, A
 {
     match job {
         Job::Raw(problem) => raw(alloc, shelf, problem),
+        Job::Prove(problem, cert) => prove(alloc, shelf, problem, cert),
     }
 }
 

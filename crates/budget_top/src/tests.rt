@@ -119,3 +119,60 @@ fn failing_calls_and_long_files_are_named(rt: HostRuntime) -> Result<(), Fail> {
     assert!(rt; printed.starts_with("no paths\nfault p\nlimit v 268435457\n"));
     Ok(())
 }
+
+/// Runs `prove p c` over a shelf with a problem and a certificate.
+fn prove(alloc: Global, problem: &str, cert: &str) -> Result<(u8, String), Fail> {
+    let mut shelf = SafeShelf::new(alloc);
+    shelf.add("p", problem.as_bytes())?;
+    shelf.add("c", cert.as_bytes())?;
+    run(alloc, &["prove", "p", "c"], &mut shelf)
+}
+
+#[test]
+fn prove_judges_the_worked_certificates(rt: HostRuntime) -> Result<(), Fail> {
+    let chain = "problem 1\nnodes 3\nitem 0 1 40 100 3\nitem 1 2 30 90 2\nstart 0 0\nend 2 150\n";
+    for (node, budget, start, weight, status, text) in [
+        (100, 100, 2, 400, 0, "holds 400\n"),
+        (100, 100, 2, 399, 7, "certificate weight 400 399\n"),
+        (100, 100, 1, 400, 7, "certificate balance 0 0\n"),
+        (99, 100, 2, 400, 7, "certificate arrival 0 1 0\n"),
+        (100, 101, 2, 400, 7, "certificate bounds 0 1 0\n"),
+    ] {
+        let head = format!(in rt.alloc(); "certificate 1\nnode 0 0 0\nnode 1 0 {node}\n")?;
+        let items = format!(in rt.alloc();
+            "node 2 0 150\nitem 0 1 0 {budget} 2\nitem 1 2 0 50 2\n"
+        )?;
+        let tail = format!(in rt.alloc(); "start 0 0 {start}\nend 2 0 2\nweight {weight}\n")?;
+        let cert = format!(in rt.alloc(); "{head}{items}{tail}")?;
+        let (answer, printed) = prove(rt.alloc(), chain, cert.as_str())?;
+        assert_eq!(rt; answer, status);
+        assert_eq!(rt; printed.as_str(), text);
+    }
+    for (problem, cert, status, text) in [
+        (
+            "problem 1\nnodes 0\n",
+            "certificate 1\nweight 0\n",
+            0,
+            "holds 0\n",
+        ),
+        (
+            "problem 1\nnodes 0\n",
+            "certificate 1\nnode 0 0 0\nweight 0\n",
+            7,
+            "certificate shape\n",
+        ),
+        (
+            "problem 1\nnodes 1\n",
+            "certificate 1\nweight 0\n",
+            5,
+            "design dead 0\n",
+        ),
+    ] {
+        let (answer, printed) = prove(rt.alloc(), problem, cert)?;
+        assert_eq!(rt; answer, status);
+        assert_eq!(rt; printed.as_str(), text);
+    }
+    let (answer, _) = prove(rt.alloc(), chain, "certif")?;
+    assert_eq!(rt; answer, 4);
+    Ok(())
+}

@@ -2,6 +2,9 @@
 use Rattle.std.proofs.Common.{◌≡◌, ℕ, true, false, Option, Some, None, List, [], ◌∷◌, ◌++◌, refl, sym, ap, append_assoc}
 use Rattle.std.proofs.lemmas.List.{append-nil}
 use Rattle.text_scan.specs.Left.{Left, ◌>>=◌}
+use Rattle.bud_base.specs.declared.texts.TextFault.{TextFault}
+use Rattle.bud_base.specs.declared.texts.TextFault.TheVariants.{Syntax, Value, NoMemory}
+use Rattle.line_text.specs.Answers.{FailsText}
 use Rattle.line_text.specs.Parts.{Row}
 use Rattle.line_text.specs.Lines.{Production, titled, begins, section}
 
@@ -43,3 +46,9 @@ pub section_ends : {X : Type 0} (title : List ℕ) (production : Production X) (
     all ≡ [] → with_front front (section title production all a) ≡ Some (front, (all, a))
 unfolding section
 section_ends title production front all a none = rw none (ap (λ xs. Some (xs, ([], a))) (append-nil front))
+
+-- what fails where a part can't be read, as the part does
+pub fails_too : {A B : Type 0} (fault : TextFault) (part : Option A) (whole : Option B) → FailsText fault part → (part ≡ None → whole ≡ None) → FailsText fault whole
+fails_too (Syntax at) part whole fails so = so fails
+fails_too (Value at) part whole fails so = fails
+fails_too NoMemory part whole fails so = tt

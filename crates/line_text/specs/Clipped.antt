@@ -6,3 +6,9 @@ abbrev pub clipped : ℤ → ℤ
 clipped n =
     if int_le (pos 4611686018427387905) n then pos 4611686018427387905
     else (if int_le n (pos 0 -ℤ pos 4611686018427387905) then pos 0 -ℤ pos 4611686018427387905 else n)
+
+-- the same past 2^100 + 1
+abbrev pub wide_clipped : ℤ → ℤ
+wide_clipped n =
+    if int_le (pos 1267650600228229401496703205377) n then pos 1267650600228229401496703205377
+    else (if int_le n (pos 0 -ℤ pos 1267650600228229401496703205377) then pos 0 -ℤ pos 1267650600228229401496703205377 else n)

@@ -5,4 +5,5 @@ pub mod Clipped
 pub mod Readings
 pub mod Lines
 pub mod Answers
+pub mod Names
 pub mod Written

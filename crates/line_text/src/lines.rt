@@ -61,7 +61,7 @@ fn titled<L: Line>(row: Reading<'_>) -> Option<(L::Value, Option<usize>)>
 
 /// Whether the row's first field is the title.
 #[inline]
-fn begins(title: &[u8], row: Span<'_>) -> bool
+pub fn begins(title: &[u8], row: Span<'_>) -> bool
     ensures { result ≡ begins title.now (fields (part_of row.entry)) }
 {
     match next_field(row) {

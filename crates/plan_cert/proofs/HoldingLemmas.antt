@@ -11,7 +11,7 @@ use Rattle.bud_model.specs.Budgets.{IsWithinBounds, AreWithinBounds, SuitBudgets
 use Rattle.bud_model.specs.Plans.{flow_of}
 use Rattle.bud_model.specs.declared.plans.Plan.{Plan}
 use Rattle.bud_model.proofs.Duality.{AreBest-from_plan}
-use Rattle.plan_cert.specs.Certs.{plan_in}
+use Rattle.cert_text.specs.Certs.{plan_in}
 use Rattle.plan_cert.specs.Failures.{AllBelow}
 use Rattle.plan_cert.specs.Raw.{HasCounts, HasFlows, IsKeptAt, IsNumbersAnswer, OnHolds}
 use Rattle.plan_cert.specs.Totals.{IsWeightAnswer}

@@ -9,7 +9,7 @@ use Rattle.bud_model.specs.Plans.{IsHolding, flow_of}
 use Rattle.bud_model.specs.declared.plans.Plan.{Plan}
 use Rattle.plan_cert.specs.Lines.{IsNodeLine, IsItemLine, IsStartLine, IsEndLine}
 use Rattle.plan_cert.specs.Failures.{AllBelow, IsFirstFailure}
-use Rattle.plan_cert.specs.Certs.{plan_in}
+use Rattle.cert_text.specs.Certs.{plan_in}
 use Rattle.cert_text.specs.declared.certs.Cert.{Cert}
 use Rattle.plan_cert.specs.declared.answers.CertAnswer.{CertAnswer}
 use Rattle.plan_cert.specs.declared.answers.CertAnswer.TheVariants.{Holds, Fault}

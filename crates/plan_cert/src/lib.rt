@@ -9,13 +9,15 @@ mod names;
 mod node_sums;
 mod numbers;
 mod sums;
+#[cfg(test)]
+mod tests;
 mod timing_checks;
 mod weights;
 
 pub use answers::{CertAnswer, CertFault, CertPlace};
 pub use cert_text::{
     Cert, CertClass, CertClasses, CertFlow, CertFlows, CertItem, CertItems, CertNode, CertNodes,
-    Numbers,
+    Numbers, read_cert,
 };
 pub use checks::check_raw;
 pub use sums::Sums;

@@ -2,7 +2,7 @@ ghost use Rattle.std.specs.Prelude.{◌≡◌, ◌↔◌, ◌<◌, ◌≤◌, �
 ghost use Rattle.bud_base.specs.Soundness.{IsSound};
 ghost use Rattle.bud_model.specs.Budgets.{IsWithinBounds, SuitBudgets};
 ghost use Rattle.bud_model.specs.Plans.{IsPlanNumber, HasPlanNumbers};
-ghost use Rattle.plan_cert.specs.Certs.{plan_in};
+ghost use Rattle.cert_text.specs.Certs.{plan_in};
 ghost use Rattle.plan_cert.specs.Failures.{IsFailure};
 ghost use Rattle.plan_cert.specs.Raw.{HasCounts, HasItemArrival, HasStartArrival, HasEndArrival};
 ghost use Rattle.plan_cert.specs.Timing.{IsLate};

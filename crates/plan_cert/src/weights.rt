@@ -5,7 +5,7 @@ ghost use Rattle.bud_flow.specs.Sums.{number_at};
 ghost use Rattle.bud_flow.specs.Flows.{item_value, value_of};
 ghost use Rattle.bud_model.specs.Budgets.{weight_of};
 ghost use Rattle.bud_model.specs.Plans.{IsPlanNumber, HasPlanNumbers, flow_of};
-ghost use Rattle.plan_cert.specs.Certs.{plan_in};
+ghost use Rattle.cert_text.specs.Certs.{plan_in};
 ghost use Rattle.plan_cert.specs.Raw.{HasCounts};
 ghost use Rattle.plan_cert.specs.Totals.{IsFactor, IsProduct, IsTotal, IsWeightAnswer};
 

@@ -4,9 +4,9 @@ use Rattle.std.proofs.lemmas.Int.{ints}
 use Rattle.std.proofs.lemmas.Bool.{cases_eq, ne_eqb}
 use Rattle.std.proofs.Math.ListN.{length-set}
 use Rattle.bud_flow.specs.Sums.{sum_below, sum_at, number_at}
-use Rattle.bud_flow.proofs.SumLemmas.{sum_below-same}
+use Rattle.bud_flow.proofs.SumLemmas.{sum_below-same, sum_below-more}
 use Rattle.residual.specs.Arcs.{arc_at}
-use Rattle.residual.specs.Excesses.{excess_of, AreExcesses, excesses_after}
+use Rattle.residual.specs.Excesses.{excess_of, excess_below, AreExcesses, excesses_after}
 use Rattle.residual.specs.declared.arcs.Arc.{Arc}
 
 -- terms that agree but for one
@@ -92,3 +92,17 @@ AreExcesses-after arcs flows numbers j amount within sizes from to told = record
         told.each v (omega arith),
       );
 }
+
+-- one arc more
+pub excess_below-more : (arcs : List Arc) (flows numbers after : List ℤ) (j : ℕ) (amount : ℤ) → (arc_at arcs j).from.0 < length numbers → (arc_at arcs j).to.0 < length numbers
+    → ((v : ℕ) → v < length numbers → number_at numbers v ≡ excess_below j arcs flows v) → amount ≡ number_at flows j → after ≡ excesses_after (arc_at arcs j) amount numbers
+    → (v : ℕ) → v < length after → number_at after v ≡ excess_below (j + 1) arcs flows v
+excess_below-more arcs flows numbers after j amount from to told is_flow is v below =
+    let size : length after ≡ length numbers = ap length is ∙ length-excesses_after (arc_at arcs j) amount numbers in
+    let one : number_at after v ≡ number_at numbers v +ℤ (cond ((arc_at arcs j).to.0 == v) amount (pos 0) -ℤ cond ((arc_at arcs j).from.0 == v) amount (pos 0))
+    = ap (λ xs. number_at xs v) is ∙ number_at-excesses_after (arc_at arcs j) amount numbers v from to in
+    let more_to = sum_below-more j (λ k. cond ((arc_at arcs k).to.0 == v) (number_at flows k) (pos 0)) in
+    let more_from = sum_below-more j (λ k. cond ((arc_at arcs k).from.0 == v) (number_at flows k) (pos 0)) in
+    let same_to = ap (λ x. cond ((arc_at arcs j).to.0 == v) x (pos 0)) is_flow in
+    let same_from = ap (λ x. cond ((arc_at arcs j).from.0 == v) x (pos 0)) is_flow in
+    omega (arith, ints, one, told v (omega arith), more_to, more_from, same_to, same_from)

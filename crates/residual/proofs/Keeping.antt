@@ -58,4 +58,4 @@ pub AreExcesses-pushed : (net : Network) (numbers : List ℤ) (key : ℕ) (amoun
 AreExcesses-pushed net numbers key amount lawful is_key size told =
     let within : key / 2 < length net.arcs = omega (arith, is_key) in
     AreExcesses-after net.arcs net.flows numbers (key / 2) (forward key amount) within lawful.sizes.flows
-    (omega (arith, size, lawful.sizes.from (key / 2) within)) (omega (arith, size, lawful.sizes.to (key / 2) within)) told
+    (omega (arith, size, lawful.sizes.joins.from (key / 2) within)) (omega (arith, size, lawful.sizes.joins.to (key / 2) within)) told

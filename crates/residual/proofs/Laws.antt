@@ -6,7 +6,7 @@ use Rattle.std.proofs.Math.ListN.{length-set}
 use Rattle.bud_flow.specs.Sums.{sum_below, sum_at, number_at}
 use Rattle.residual.specs.Bounds.{IsWithin, AllWithin}
 use Rattle.residual.specs.Arcs.{arc_at, full, residual_of, residual_at, reduced_cost, CanCarry, CarryAll, HoldsReduced}
-use Rattle.residual.specs.Excesses.{excess_of, AreExcesses, forward, flows_after}
+use Rattle.residual.specs.Excesses.{excess_of, excess_below, AreExcesses, forward, flows_after}
 use Rattle.residual.specs.Networks.{Network, IsKey, residual, AreReduced, HasSizes, IsLawful}
 use Rattle.residual.proofs.Within.{AllWithin-set}
 use Rattle.residual.specs.declared.arcs.Arc.{Arc}
@@ -25,13 +25,17 @@ sum_at-bounds (suc n) b place_of term v bounds =
     one false t bounds = (omega (arith, ints), omega (arith, ints))
 
 -- excesses are small
+pub excess_below-within : (count : ℕ) (arcs : List Arc) (flows : List ℤ) (v : ℕ) → count ≤ length arcs → length arcs < 2 ^ 32 → CarryAll arcs flows
+    → IsWithin (pos (2 ^ 113)) (excess_below count arcs flows v)
+excess_below-within count arcs flows v inside few carried =
+    let bounds : (k : ℕ) → k < count → (pos 0 ≤ℤ number_at flows k) × (number_at flows k ≤ℤ pos (2 ^ 80))
+    = λ k below. let one = carried k (omega (arith, below, inside)) in (one.least, omega (arith, ints, one.most, one.limit)) in
+    let to = sum_at-bounds count (2 ^ 80) (λ j. (arc_at arcs j).to.0) (number_at flows) v bounds in
+    let from = sum_at-bounds count (2 ^ 80) (λ j. (arc_at arcs j).from.0) (number_at flows) v bounds in
+    record { low = omega (arith, ints, to.0, to.1, from.0, from.1, few, inside); high = omega (arith, ints, to.0, to.1, from.0, from.1, few, inside) }
+
 pub excess_of-within : (arcs : List Arc) (flows : List ℤ) (v : ℕ) → length arcs < 2 ^ 32 → CarryAll arcs flows → IsWithin (pos (2 ^ 113)) (excess_of arcs flows v)
-excess_of-within arcs flows v few carried =
-    let bounds : (k : ℕ) → k < length arcs → (pos 0 ≤ℤ number_at flows k) × (number_at flows k ≤ℤ pos (2 ^ 80))
-    = λ k below. let one = carried k below in (one.least, omega (arith, ints, one.most, one.limit)) in
-    let to = sum_at-bounds (length arcs) (2 ^ 80) (λ j. (arc_at arcs j).to.0) (number_at flows) v bounds in
-    let from = sum_at-bounds (length arcs) (2 ^ 80) (λ j. (arc_at arcs j).from.0) (number_at flows) v bounds in
-    record { low = omega (arith, ints, to.0, to.1, from.0, from.1, few); high = omega (arith, ints, to.0, to.1, from.0, from.1, few) }
+excess_of-within arcs flows v few carried = excess_below-within (length arcs) arcs flows v (omega arith) few carried
 
 -- an arc and its reverse are tight together, whatever their flow
 pub reduced_cost-tight : (a : Arc) (flow other : ℤ) (b c : Bool) (potentials : List ℤ) → reduced_cost potentials (residual_of a flow b) ≡ pos 0
@@ -80,8 +84,7 @@ IsLawful-pushed net key amount lawful is_key reduced tight least room = record {
     flows = length-set net.flows (key / 2) _ ∙ lawful.sizes.flows;
     kept = lawful.sizes.potentials;
     potentials = lawful.sizes.potentials;
-    from = lawful.sizes.from;
-    to = lawful.sizes.to;
+    joins = lawful.sizes.joins;
     count = lawful.sizes.count;
   };
   flows = CarryAll-after net.arcs net.flows key amount lawful.flows lawful.sizes.flows is_key least room;
@@ -100,8 +103,7 @@ IsLawful-lifted net v time lawful is_node small = record {
     flows = lawful.sizes.flows;
     kept = lawful.sizes.kept;
     potentials = length-set net.potentials v time ∙ lawful.sizes.potentials;
-    from = lawful.sizes.from;
-    to = lawful.sizes.to;
+    joins = lawful.sizes.joins;
     count = lawful.sizes.count;
   };
   flows = lawful.flows;

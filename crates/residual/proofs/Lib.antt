@@ -3,3 +3,10 @@ pub mod Within
 pub mod Laws
 pub mod Keeping
 pub mod Sweeping
+pub mod Blocks
+pub mod Pairs
+pub mod Freshness
+pub mod Ends
+pub mod Balance
+pub mod Theory
+pub mod Pushing

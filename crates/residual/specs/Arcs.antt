@@ -1,5 +1,5 @@
 -- Arcs, and what is left of them under a flow.
-use Rattle.std.specs.Prelude.{ℕ, ℤ, pos, ◌+ℤ◌, ◌-ℤ◌, ◌≤ℤ◌, ◌<ℤ◌, ◌<◌, ◌/◌, ◌%◌, ◌^◌, ◌==◌, Bool, true, false, List, length, slice_index_or}
+use Rattle.std.specs.Prelude.{ℕ, ℤ, pos, ◌+ℤ◌, ◌-ℤ◌, ◌≤ℤ◌, ◌<ℤ◌, ◌<◌, ◌/◌, ◌%◌, ◌^◌, ◌==◌, Bool, true, false, List, length, slice_index_or, int_lt, if◌then◌else◌}
 use Rattle.bud_base.specs.declared.problems.Item.{Item}
 use Rattle.bud_base.specs.declared.problems.Start.{Start}
 use Rattle.bud_base.specs.declared.problems.End.{End}
@@ -40,6 +40,26 @@ residual_of a flow false = record { from = a.to; to = a.from; room = flow; cost 
 -- the residual arc of a key: an arc has an even key, and its reverse the odd key after it
 abbrev pub residual_at : List Arc → List ℤ → ℕ → Look
 residual_at arcs flows key = residual_of (arc_at arcs (key / 2)) (number_at flows (key / 2)) (key % 2 == 0)
+
+-- the item's times are small
+pub record HasSmallTimes (x : Item) : Type 0 where
+  pub least : IsSmall x.least
+  pub greatest : IsSmall x.greatest
+
+-- the item is between nodes below this number
+pub record IsBetween (nodes : ℕ) (x : Item) : Type 0 where
+  pub from : x.from.0 < nodes
+  pub to : x.to.0 < nodes
+
+-- the arcs join nodes below this number
+pub record JoinBelow (nodes : ℕ) (arcs : List Arc) : Type 0 where
+  pub from : (j : ℕ) → j < length arcs → (arc_at arcs j).from.0 < nodes
+  pub to : (j : ℕ) → j < length arcs → (arc_at arcs j).to.0 < nodes
+
+-- an item's weight where the potentials of its nodes differ by less than its greatest, else 0
+abbrev pub first_flow : List ℤ → Item → ℤ
+first_flow potentials x =
+    if int_lt (number_at potentials x.to.0 -ℤ number_at potentials x.from.0) x.greatest then pos x.weight else pos 0
 
 -- the cost, and the potential that the arc gains
 abbrev pub reduced_cost : List ℤ → Look → ℤ

@@ -4,11 +4,14 @@ use Rattle.bud_flow.specs.Sums.{number_at, sum_at}
 use Rattle.residual.specs.Arcs.{arc_at}
 use Rattle.residual.specs.declared.arcs.Arc.{Arc}
 
--- what the arcs carry to the node, less what they take from it
+-- what the arcs below this number carry to the node, less what they take from it
+abbrev pub excess_below : ℕ → List Arc → List ℤ → ℕ → ℤ
+excess_below count arcs flows v =
+    sum_at count (λ j. (arc_at arcs j).to.0) (number_at flows) v -ℤ sum_at count (λ j. (arc_at arcs j).from.0) (number_at flows) v
+
+-- the flow into the node less the flow out of it
 abbrev pub excess_of : List Arc → List ℤ → ℕ → ℤ
-excess_of arcs flows v =
-    sum_at (length arcs) (λ j. (arc_at arcs j).to.0) (number_at flows) v
-    -ℤ sum_at (length arcs) (λ j. (arc_at arcs j).from.0) (number_at flows) v
+excess_of arcs flows v = excess_below (length arcs) arcs flows v
 
 -- the numbers are the excesses of the nodes and of the root
 pub record AreExcesses (arcs : List Arc) (flows numbers : List ℤ) : Type 0 where

@@ -4,3 +4,4 @@ pub mod Excesses
 pub mod Networks
 pub mod Insides
 pub mod Sweeps
+pub mod Balances

@@ -3,7 +3,7 @@ use Rattle.std.specs.Prelude.{◌≡◌, ℕ, ℤ, pos, ◌+◌, ◌*◌, ◌^�
 use Rattle.bud_base.specs.Paths.{item_at, start_at, end_at}
 use Rattle.bud_base.specs.declared.problems.Problem.{Problem}
 use Rattle.bud_flow.specs.Sums.{number_at}
-use Rattle.residual.specs.Arcs.{arc_at, limited_arc, open_arc, start_arc, end_arc, residual_at, HoldsReduced, CarryAll}
+use Rattle.residual.specs.Arcs.{arc_at, limited_arc, open_arc, start_arc, end_arc, residual_at, HoldsReduced, CarryAll, JoinBelow, first_flow}
 use Rattle.residual.specs.Bounds.{AllWithin}
 use Rattle.residual.specs.Excesses.{excess_of}
 use Rattle.residual.specs.declared.arcs.Arc.{Arc}
@@ -54,8 +54,7 @@ pub record HasSizes (net : Network) : Type 0 where
   pub flows : length net.flows ≡ length net.arcs
   pub kept : length net.kept ≡ net.nodes + 1
   pub potentials : length net.potentials ≡ net.nodes + 1
-  pub from : (j : ℕ) → j < length net.arcs → (arc_at net.arcs j).from.0 < net.nodes + 1
-  pub to : (j : ℕ) → j < length net.arcs → (arc_at net.arcs j).to.0 < net.nodes + 1
+  pub joins : JoinBelow (net.nodes + 1) net.arcs
   pub count : length net.arcs < 2 ^ 32
 
 -- The law of a network. Its flows are at least 0 and within their limits, its kept potentials give each residual arc with room a reduced
@@ -79,3 +78,10 @@ pub record Fits (net : Network) (p : Problem) : Type 0 where
   pub open_arcs : (i : ℕ) → i < length p.items → arc_at net.arcs (length p.items + i) ≡ open_arc (item_at p.items i)
   pub start_arcs : (s : ℕ) → s < length p.starts → arc_at net.arcs (length p.items + length p.items + s) ≡ start_arc p.nodes (start_at p.starts s)
   pub end_arcs : (e : ℕ) → e < length p.ends → arc_at net.arcs (length p.items + length p.items + length p.starts + e) ≡ end_arc p.nodes (end_at p.ends e)
+
+-- each item carries its weight where the potentials of its nodes differ by less than its greatest, else nothing; starts and ends carry nothing
+pub record IsFresh (p : Problem) (net : Network) : Type 0 where
+  pub items : (i : ℕ) → i < length p.items → item_flow_at net i ≡ first_flow net.potentials (item_at p.items i)
+  pub starts : (s : ℕ) → s < length p.starts → start_flow_at net s ≡ pos 0
+  pub ends : (e : ℕ) → e < length p.ends → end_flow_at net e ≡ pos 0
+  pub closed : net.is_open ≡ false

@@ -1,8 +1,13 @@
-ghost use Rattle.std.specs.Prelude.{◌≡◌, ◌<◌, ◌+◌, ◌≤ℤ◌, ◌+ℤ◌, ◌-ℤ◌, ◌^◌, pos, false, true, slice_set, length};
+ghost use Rattle.std.specs.Prelude.{◌≡◌, ◌<◌, ◌+◌, ◌≤ℤ◌, ◌+ℤ◌, ◌-ℤ◌, ◌^◌, pos, false, true, slice_set, IfOk};
 ghost use Rattle.bud_flow.specs.Sums.{number_at};
 
-use crate::arcs::{Arc, Look, add_at, forward_amount, keep, lift_at, look_at, move_excess};
-use bud_base::{ItemId, NodeId, Steps};
+use crate::arcs::{
+    Arc, Look, add_at, arcs_of, copied, excesses_of, first_flows, forward_amount, keep, lift_at,
+    look_at, move_excess, number_in,
+};
+use crate::arrivals::least_arrivals;
+use bud_base::{ItemId, NodeId, Problem, Steps};
+use std::alloc::{AllocError, Global};
 use std::marker::Model;
 use std::sync::ledger::Ledger;
 
@@ -34,15 +39,53 @@ impl Model for Net {
 }
 
 impl Net {
+    ghost use Rattle.bud_base.specs.Paths.{Meets, least_of};
+    ghost use Rattle.bud_base.specs.Soundness.{IsSound};
+    ghost use Rattle.bud_flow.specs.Arrivals.{Suit};
     ghost use Rattle.residual.specs.Arcs.{reduced_cost};
-    ghost use Rattle.residual.specs.Bounds.{IsSmall};
+    ghost use Rattle.residual.specs.Bounds.{IsSmall, IsWithin};
     ghost use Rattle.residual.specs.Excesses.{flows_after};
-    ghost use Rattle.residual.specs.Networks.{IsKey, residual, IsLawful, AreReduced, excess_at, item_flow_at, start_flow_at, end_flow_at};
+    ghost use Rattle.residual.specs.Networks.{IsKey, residual, IsLawful, AreReduced, excess_at, item_flow_at, start_flow_at, end_flow_at, Fits, IsFresh};
+
+    /// The network of a problem, with the least arrivals as its potentials.
+    pub fn new(alloc: Global, problem: &Problem) -> Result<Net, AllocError>
+        requires sound { IsSound problem.now }
+        requires meets { Meets problem.now }
+        ensures fits { IfOk result (λ net. Fits net problem.now) }
+        ensures suit { IfOk result (λ net. Suit problem.now (least_of problem.now) (number_at net.potentials)) }
+        ensures fresh { IfOk result (λ net. IsFresh problem.now net) }
+        ensures lawful { IfOk result (λ net. IsLawful net) }
+    {
+        let items = problem.items.as_slice();
+        let starts = problem.starts.as_slice();
+        let ends = problem.ends.as_slice();
+        let potentials = least_arrivals(alloc, problem)?;
+        let kept = copied(alloc, &potentials)?;
+        let arcs = arcs_of(alloc, NodeId(problem.nodes), items, starts, ends)?;
+        let flows = first_flows(alloc, &potentials, items, starts, ends)?;
+        let excess = excesses_of(alloc, problem.nodes as usize + 1, &arcs, &flows)?;
+        Ok(Net {
+            nodes: problem.nodes,
+            items: items.len(),
+            starts: starts.len(),
+            ends: ends.len(),
+            arcs,
+            flows,
+            excess,
+            kept,
+            potentials,
+            is_open: false,
+        })
+    }
 
     /// Looks at a residual arc, which is a step.
     pub fn look<L: Ledger>(&self, arc: usize, steps: &mut Steps<L>) -> Look
         requires { IsKey self.now arc }
         ensures look { result ≡ residual self.now arc }
+        ensures from { result.from.0 < self.now.nodes + 1 }
+        ensures to { result.to.0 < self.now.nodes + 1 }
+        ensures cost { IsSmall result.cost }
+        ensures room { IsWithin (pos (2 ^ 80)) result.room }
         ensures lawful { IsLawful self.now }
         ensures steps { steps.new ≡ steps.old + 1 }
     {
@@ -54,15 +97,17 @@ impl Net {
     pub fn excess(&self, node: NodeId) -> i128
         requires { node.0 < self.now.nodes + 1 }
         ensures excess { result ≡ excess_at self.now node.0 }
+        ensures small { IsWithin (pos (2 ^ 113)) result }
         ensures lawful { IsLawful self.now }
     {
-        self.excess[node.0 as usize]
+        number_in(&self.excess, node.0 as usize)
     }
 
     /// The potential of a node, with the lifts of the open round, in ps.
     pub fn potential(&self, node: NodeId) -> i64
         requires { node.0 < self.now.nodes + 1 }
         ensures potential { result ≡ number_at self.now.potentials node.0 }
+        ensures small { IsSmall result }
         ensures lawful { IsLawful self.now }
     {
         self.potentials[node.0 as usize]

@@ -1,4 +1,4 @@
-use Rattle.plan_cert.specs.Certs.{plan_in}
+use Rattle.cert_text.specs.Certs.{plan_in}
 use Rattle.plan_cert.proofs.HoldingLemmas.{AreBest-on_holds}
 use Rattle.plan_cert.proofs.checks.check_raw.Goals as goal
 

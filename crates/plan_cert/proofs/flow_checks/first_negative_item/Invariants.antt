@@ -1,4 +1,4 @@
-use Rattle.plan_cert.specs.Certs.{plan_in}
+use Rattle.cert_text.specs.Certs.{plan_in}
 use Rattle.plan_cert.specs.Failures.{AllBelow}
 use Rattle.plan_cert.specs.Raw.{IsFlowAt}
 use Rattle.plan_cert.proofs.flow_checks.first_negative_item.Given as goal

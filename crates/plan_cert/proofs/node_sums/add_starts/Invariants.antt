@@ -1,4 +1,4 @@
-use Rattle.plan_cert.specs.Certs.{plan_in}
+use Rattle.cert_text.specs.Certs.{plan_in}
 use Rattle.plan_cert.specs.NodeSums.{AreSums, inflow_sum}
 use Rattle.plan_cert.proofs.node_sums.add_starts.Given as goal
 

@@ -1,4 +1,4 @@
-use Rattle.plan_cert.specs.Certs.{plan_in}
+use Rattle.cert_text.specs.Certs.{plan_in}
 use Rattle.plan_cert.proofs.NodeSumLemmas.{IsFailure-kept}
 use Rattle.plan_cert.proofs.node_sums.first_unkept.Goals as goal
 

@@ -1,7 +1,7 @@
 use Rattle.std.proofs.Common.{arith, length, ◌≤◌, ◌≡◌, to_z, of_z, w64}
 use Rattle.std.proofs.lemmas.Int.{ints}
 use Rattle.std.proofs.lemmas.List.{length-map}
-use Rattle.plan_cert.specs.Certs.{plan_in}
+use Rattle.cert_text.specs.Certs.{plan_in}
 use Rattle.plan_cert.proofs.NodeSumLemmas.{AreSums-range, excess_sum-range, excess_sum-step}
 use Rattle.plan_cert.proofs.node_sums.subtract_ends.Goals as goal
 

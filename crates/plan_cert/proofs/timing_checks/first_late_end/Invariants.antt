@@ -1,4 +1,4 @@
-use Rattle.plan_cert.specs.Certs.{plan_in}
+use Rattle.cert_text.specs.Certs.{plan_in}
 use Rattle.plan_cert.specs.Failures.{AllBelow}
 use Rattle.plan_cert.specs.Raw.{HasEndArrival}
 use Rattle.plan_cert.proofs.timing_checks.first_late_end.Given as goal

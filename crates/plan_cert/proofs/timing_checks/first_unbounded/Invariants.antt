@@ -1,5 +1,5 @@
 use Rattle.bud_model.specs.Budgets.{IsWithinBounds}
-use Rattle.plan_cert.specs.Certs.{plan_in}
+use Rattle.cert_text.specs.Certs.{plan_in}
 use Rattle.plan_cert.specs.Failures.{AllBelow}
 use Rattle.plan_cert.proofs.timing_checks.first_unbounded.Given as goal
 

@@ -1,7 +1,7 @@
 use Rattle.std.proofs.Common.{◌*ℤ◌}
 use Rattle.bud_base.specs.Paths.{end_at}
 use Rattle.bud_flow.specs.Sums.{number_at}
-use Rattle.plan_cert.specs.Certs.{plan_in}
+use Rattle.cert_text.specs.Certs.{plan_in}
 use Rattle.plan_cert.specs.Totals.{IsTotal}
 use Rattle.plan_cert.proofs.weights.ends_value.Given as goal
 

@@ -1,7 +1,7 @@
 use Rattle.bud_base.specs.Paths.{item_at}
 use Rattle.bud_flow.specs.Sums.{number_at}
 use Rattle.bud_flow.specs.Flows.{item_value}
-use Rattle.plan_cert.specs.Certs.{plan_in}
+use Rattle.cert_text.specs.Certs.{plan_in}
 use Rattle.plan_cert.specs.Totals.{IsTotal}
 use Rattle.plan_cert.proofs.weights.items_value.Given as goal
 

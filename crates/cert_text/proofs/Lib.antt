@@ -1,0 +1,4 @@
+pub mod CertificateLaws
+pub mod NumberLaws
+pub mod WeightLaws
+pub mod WritingLaws

@@ -1,0 +1,6 @@
+pub mod Certs
+pub mod Lines
+pub mod Texts
+pub mod Reading
+pub mod Sizes
+pub mod Writing

@@ -1,0 +1,9 @@
+pub mod Nearness
+pub mod Seeds
+pub mod Labels
+pub mod Taking
+pub mod Ways
+pub mod Lifting
+pub mod Amounts
+pub mod PushSteps
+pub mod Augments

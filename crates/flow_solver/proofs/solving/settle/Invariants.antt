@@ -1,0 +1,10 @@
+use Rattle.residual.specs.Balances.{surplus}
+use Rattle.flow_solver.specs.Rounds.{AreRounds}
+use Rattle.flow_solver.proofs.Augments.{size_of}
+use Rattle.flow_solver.proofs.solving.settle.Given as goal
+
+abbrev pub invariant-rounds : goal.invariant-rounds
+invariant-rounds g l = AreRounds l.fn.net l.net
+
+abbrev pub decreases-rounds : goal.decreases-rounds
+decreases-rounds g l = size_of (surplus l.net)

@@ -1,0 +1,5 @@
+pub mod Entries
+pub mod Searches
+pub mod Lifts
+pub mod Pushes
+pub mod Rounds

@@ -1,0 +1,57 @@
+ghost use Rattle.std.specs.Prelude.{◌≡◌, ℕ, ◌+◌, ◌<◌, ◌<ℤ◌, pos, false, length};
+ghost use Rattle.bud_base.specs.Soundness.{IsSound};
+ghost use Rattle.residual.specs.Networks.{Fits, IsLawful, excess_at};
+ghost use Rattle.residual.specs.Balances.{HasRoom, HasNoExcess};
+ghost use Rattle.flow_solver.specs.Pushes.{IsAugmented};
+ghost use Rattle.flow_solver.specs.Searches.{AreSeeded};
+ghost use Rattle.flow_solver.specs.Rounds.{HasSlack, AreRounds};
+
+use crate::entries::Entry;
+use crate::pushes::{amount_along, push_along, raise};
+use crate::searches::{search, seed};
+use bud_base::{Problem, Steps};
+use residual::Net;
+use std::sync::ledger::Ledger;
+
+/// Settles excess: searches from the nodes that have some for one that lacks flow, and pushes along the way.
+fn augment<L: Ledger>(
+    net: &mut Net,
+    problem: &Problem,
+    entries: &mut [Option<Entry>],
+    steps: &mut Steps<L>,
+)
+    requires sound { IsSound problem.now }
+    requires fits { Fits net.old problem.now }
+    requires lawful { IsLawful net.old }
+    requires closed { net.old.is_open ≡ false }
+    requires room { HasRoom net.old }
+    requires seeded { AreSeeded net.old entries.old }
+    requires some { (v : ℕ) × (v < length entries.old) × (pos 0 <ℤ excess_at net.old v) }
+    ensures { IsAugmented net.old net.new }
+{
+    let found = search(net, problem, entries, steps);
+    raise(net, problem.nodes, entries, found.distance);
+    let amount = amount_along(net, entries, found.node, steps);
+    push_along(net, entries, found.node, amount, steps);
+}
+
+/// Settles all excess.
+fn settle<L: Ledger>(
+    net: &mut Net,
+    problem: &Problem,
+    entries: &mut [Option<Entry>],
+    steps: &mut Steps<L>,
+)
+    requires sound { IsSound problem.now }
+    requires fits { Fits net.old problem.now }
+    requires closed { net.old.is_open ≡ false }
+    requires slack { HasSlack net.old }
+    requires size { length entries.old ≡ problem.now.nodes + 1 }
+    ensures rounds { AreRounds net.old net.new }
+    ensures lawful { IsLawful net.new }
+    ensures balanced { HasNoExcess net.new }
+{
+    'rounds: while seed(net, problem.nodes, entries) {
+        augment(net, problem, entries, steps);
+    }
+}
