@@ -3,6 +3,8 @@
 
 mod lines;
 mod reader;
+#[cfg(test)]
+mod tests;
 mod writer;
 
 pub use reader::{one_value, read_problem};

@@ -5,6 +5,8 @@ mod cursors;
 mod decimals;
 mod offsets;
 mod scans;
+#[cfg(test)]
+mod tests;
 
 pub use cursors::{Cursor, one_decimal};
 pub use decimals::{Round, ScanFault};
