@@ -8,6 +8,7 @@ mod line_checks;
 mod names;
 mod node_sums;
 mod numbers;
+mod raw_certs;
 mod sums;
 #[cfg(test)]
 mod tests;
