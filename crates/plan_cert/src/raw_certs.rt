@@ -1,10 +1,11 @@
-ghost use Rattle.std.specs.Prelude.{◌≡◌, ◌≤◌, length, map, decimal, IfOk};
-ghost use Rattle.bud_model.specs.Plans.{IsPlanOf, HasPlanNumbers};
+ghost use Rattle.std.specs.Prelude.{◌≡◌, length, map, decimal, IfOk};
+ghost use Rattle.bud_base.specs.Soundness.{IsSound};
+ghost use Rattle.bud_model.specs.Plans.{IsPlanOf, HasPlanNumbers, IsHolding};
 ghost use Rattle.cert_text.specs.Certs.{plan_in};
 ghost use Rattle.cert_text.specs.Writing.{IsInTextRanges};
 ghost use Rattle.plan_cert.specs.Failures.{AllBelow};
 ghost use Rattle.plan_cert.specs.Lines.{IsNodeLine, IsItemLine, IsStartLine, IsEndLine};
-ghost use Rattle.plan_cert.specs.Raw.{HasRawLines};
+ghost use Rattle.plan_cert.specs.Raw.{HasRawLines, IsRawCert};
 
 use bud_base::{ClassId, End, Item, NodeId, Problem, Start, Text};
 use bud_model::Plan;
@@ -20,8 +21,8 @@ fn name_of(alloc: Global, node: u32) -> Result<Text, AllocError>
 }
 
 // The lines of nodes with these arrivals.
-fn node_lines(alloc: Global, arrivals: &[i64]) -> Result<CertNodes, AllocError>
-    requires { length arrivals.now ≤ 8388608 }
+fn node_lines(alloc: Global, nodes: u32, arrivals: &[i64]) -> Result<CertNodes, AllocError>
+    requires { length arrivals.now ≡ nodes }
     ensures names { IfOk result (λ lines. AllBelow (IsNodeLine lines) (length arrivals.now)) }
     ensures numbers { IfOk result (λ lines. map (λ line. line.arrival) lines ≡ arrivals.now) }
 {
@@ -96,15 +97,13 @@ fn end_lines(alloc: Global, ends: &[End], flows: &[i64]) -> Result<CertFlows, Al
     Ok(CertFlows::from_vec(lines))
 }
 
-/// The certificate of a plan of a raw problem: the problem's lines in its order, with its node numbers as names and
-/// class 0, and the plan's numbers.
-pub fn raw_cert_of(alloc: Global, problem: &Problem, plan: &Plan) -> Result<Cert, AllocError>
-    requires sizes { IsPlanOf problem.now plan.now }
-    requires nodes { problem.now.nodes ≤ 8388608 }
+// The lines of the problem with the numbers of the plan.
+fn raw_lines(alloc: Global, problem: &Problem, plan: &Plan) -> Result<Cert, AllocError>
+    requires { IsPlanOf problem.now plan.now }
     ensures lines { IfOk result (HasRawLines problem.now) }
     ensures plan { IfOk result (λ cert. plan_in cert ≡ plan.now) }
 {
-    let nodes = node_lines(alloc, plan.arrivals.as_slice())?;
+    let nodes = node_lines(alloc, problem.nodes, plan.arrivals.as_slice())?;
     let items = item_lines(
         alloc,
         problem.items.as_slice(),
@@ -121,4 +120,18 @@ pub fn raw_cert_of(alloc: Global, problem: &Problem, plan: &Plan) -> Result<Cert
         ends,
         weight: plan.weight,
     })
+}
+
+/// The certificate of a plan of a raw problem: the problem's lines in its order, with its node numbers as names and
+/// class 0, and the plan's numbers.
+pub fn raw_cert_of(alloc: Global, problem: &Problem, plan: &Plan) -> Result<Cert, AllocError>
+    requires { IsPlanOf problem.now plan.now }
+    ensures lines { IfOk result (HasRawLines problem.now) }
+    ensures plan { IfOk result (λ cert. plan_in cert ≡ plan.now) }
+    // The certificate of a plan that holds is one that `check_raw` accepts.
+    ensures holds { IsHolding problem.now plan.now → IfOk result (IsRawCert problem.now) }
+    // What `write_cert` asks for, so that the written text is read as the certificate.
+    ensures ranges { IsSound problem.now → HasPlanNumbers plan.now → IfOk result IsInTextRanges }
+{
+    raw_lines(alloc, problem, plan)
 }
