@@ -1,5 +1,5 @@
 -- Plans that hold, and flows that prove budgets.
-use Rattle.std.specs.Prelude.{◌≡◌, ℤ, pos, negsuc, ◌≤ℤ◌, List, All}
+use Rattle.std.specs.Prelude.{◌≡◌, ℤ, pos, negsuc, ◌≤ℤ◌, List, length, All}
 use Rattle.bud_base.specs.declared.problems.Problem.{Problem}
 use Rattle.bud_flow.specs.Flows.{Flow, IsBalanced, value_of}
 use Rattle.bud_model.specs.Budgets.{AreWithinBounds, SuitBudgets, weight_of}
@@ -21,6 +21,14 @@ pub record IsHolding (p : Problem) (plan : Plan) : Type 0 where
   pub balanced : IsBalanced p (flow_of plan)
   pub weight : weight_of p plan.budgets ≡ plan.weight
   pub value : value_of p (flow_of plan) ≡ plan.weight
+
+-- the plan has one budget and flow for each item, one arrival for each node, and one flow for each start and end
+pub record IsPlanOf (p : Problem) (plan : Plan) : Type 0 where
+  pub budgets : length plan.budgets ≡ length p.items
+  pub arrivals : length plan.arrivals ≡ p.nodes
+  pub flow : length plan.flow ≡ length p.items
+  pub start_flow : length plan.start_flow ≡ length p.starts
+  pub end_flow : length plan.end_flow ≡ length p.ends
 
 -- a budget, an arrival or a flow is within 2^44 either way
 pub record IsPlanNumber (number : ℤ) : Type 0 where

@@ -1,4 +1,3 @@
 pub mod CertificateLaws
 pub mod NumberLaws
-pub mod WeightLaws
 pub mod WritingLaws

@@ -23,7 +23,7 @@ use Rattle.bud_model.specs.declared.edges.Edge.TheVariants.{Rise, Fall}
 use Rattle.cert_text.specs.Lines as lines
 use Rattle.cert_text.specs.Texts.{Reads}
 use Rattle.cert_text.specs.Writing.{edge_word, class_fields, node_fields, item_fields, flow_fields, class_line, node_line, item_line, start_line, end_line, text_of, IsTextName, IsTextClass, IsTextNode, IsTextItem, IsTextFlow, IsInTextRanges}
-use Rattle.cert_text.proofs.WeightLaws.{whole_printed, field_signed}
+use Rattle.line_text.proofs.WideLaws.{wide_whole_printed, wide_field_signed}
 use Rattle.cert_text.specs.declared.certs.Cert.{Cert}
 use Rattle.cert_text.specs.declared.certs.CertClass.{CertClass}
 use Rattle.cert_text.specs.declared.certs.CertNode.{CertNode}
@@ -67,7 +67,7 @@ class_written n at parts b low = rw (count_written n.0 at parts b low) refl
 number_written : (z : ℤ) (at : ℕ) (parts : List Part) (b : Option ℕ) → IsPlanNumber z → lines.number (part at (signed_decimal z) ∷ parts, b) ≡ Some (z, (parts, b))
 number_written z at parts b within =
     let low : (pos 0 -ℤ pos 17592186044416) ≤ℤ z = omega (arith, ints, within.low) in
-    whole_reads _ _ z at (signed_decimal z) parts b (whole_printed z (number_magnitude z within)) (rw (true_of _ low.le, true_of _ within.high.le) refl)
+    whole_reads _ _ z at (signed_decimal z) parts b (wide_whole_printed z (number_magnitude z within)) (rw (true_of _ low.le, true_of _ within.high.le) refl)
 
 edge_written : (e : Edge) (at : ℕ) (parts : List Part) (b : Option ℕ) → lines.edge (part at (edge_word e) ∷ parts, b) ≡ Some (e, (parts, b))
 unfolding lines.edge
@@ -124,7 +124,7 @@ node_read x given at = node_parts x given _ _ _
 
 node_line_written : (x : CertNode) → IsTextNode x → IsWritten (codes "node") lines.node node_fields x
 node_line_written x given = record {
-  plain = rw (name_field x.name given.name, field_decimal x.class.0 (omega (arith, given.class)), field_signed x.arrival (number_magnitude x.arrival given.arrival)) refl;
+  plain = rw (name_field x.name given.name, field_decimal x.class.0 (omega (arith, given.class)), wide_field_signed x.arrival (number_magnitude x.arrival given.arrival)) refl;
   read = node_read x given;
 }
 
@@ -153,8 +153,8 @@ item_line_written x given = record {
     name_field x.from given.from,
     name_field x.to given.to,
     field_decimal x.class.0 (omega (arith, given.class)),
-    field_signed x.budget (number_magnitude x.budget given.budget),
-    field_signed x.flow (number_magnitude x.flow given.flow),
+    wide_field_signed x.budget (number_magnitude x.budget given.budget),
+    wide_field_signed x.flow (number_magnitude x.flow given.flow),
   ) refl;
   read = item_read x given;
 }
@@ -174,7 +174,7 @@ unfolding word
 end_read x given at = flow_parts x given _ _ _
 
 flow_plain : (x : CertFlow) → IsTextFlow x → list_all is_field (flow_fields x) ≡ true
-flow_plain x given = rw (name_field x.name given.name, field_decimal x.class.0 (omega (arith, given.class)), field_signed x.flow (number_magnitude x.flow given.flow)) refl
+flow_plain x given = rw (name_field x.name given.name, field_decimal x.class.0 (omega (arith, given.class)), wide_field_signed x.flow (number_magnitude x.flow given.flow)) refl
 
 start_line_written : (x : CertFlow) → IsTextFlow x → IsWritten (codes "start") lines.flow flow_fields x
 start_line_written x given = record { plain = flow_plain x given; read = start_read x given }
@@ -186,7 +186,7 @@ weight_part : (w : ℤ) → IsPlanWeight w → (a : ℕ) → lines.weight (part 
 unfolding lines.weight
 weight_part w within a =
     let low : (pos 0 -ℤ pos 1267650600228229401496703205376) ≤ℤ w = omega (arith, ints, within.low) in
-    rw (whole_reads (pos 0 -ℤ pos 1267650600228229401496703205376) (pos 1267650600228229401496703205376) w a (signed_decimal w) [] None (whole_printed w (weight_magnitude w within)) (rw (true_of _ low.le, true_of _ within.high.le) refl)) refl
+    rw (whole_reads (pos 0 -ℤ pos 1267650600228229401496703205376) (pos 1267650600228229401496703205376) w a (signed_decimal w) [] None (wide_whole_printed w (weight_magnitude w within)) (rw (true_of _ low.le, true_of _ within.high.le) refl)) refl
 
 weight_read : (w : ℤ) → IsPlanWeight w → (at : ℕ) → titled (codes "weight") lines.weight (placed at (codes "weight" ∷ signed_decimal w ∷ []), None) ≡ Some (w, None)
 unfolding word
@@ -219,7 +219,7 @@ text_made : (cert : Cert) → IsPlanWeight cert.weight → (classes nodes items 
 text_made cert within classes nodes items starts ends s1 s2 s3 s4 s5 =
     let version = placed 0 (codes "certificate" ∷ codes "1" ∷ []) in
     let weight = placed s5.behind (codes "weight" ∷ signed_decimal cert.weight ∷ []) in
-    let plain : list_all is_field (signed_decimal cert.weight ∷ []) ≡ true = rw (field_signed cert.weight (weight_magnitude cert.weight within)) refl in
+    let plain : list_all is_field (signed_decimal cert.weight ∷ []) ≡ true = rw (wide_field_signed cert.weight (weight_magnitude cert.weight within)) refl in
     let end = s5.behind + length (weight_line cert.weight) in
     let last : rows (record { at = s5.behind; bytes = weight_line cert.weight }) ≡ weight ∷ []
     = rw append-nil at (rows_written s5.behind (codes "weight") (signed_decimal cert.weight ∷ []) [] refl plain) ∙ ap (λ rest. weight ∷ rest) (rows_none (record { at = end; bytes = [] }) refl) in

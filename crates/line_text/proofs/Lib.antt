@@ -5,4 +5,5 @@ pub mod SectionLaws
 pub mod CountLemmas
 pub mod WrittenLaws
 pub mod PrintedLaws
+pub mod WideLaws
 pub mod WrittenSections

@@ -20,7 +20,7 @@ use Rattle.line_text.specs.Written.{is_field}
 own : IsNumeralModel (λ ds. all_ascii_digits ds ≡ true) value_of
 own = numerals_by_weight _ (search rules) value_of (search rules)
 
-natural_of_digits : (ds : List ℕ) → 0 < length ds → all_ascii_digits ds ≡ true → natural_of ds ≡ Some (value_of ds)
+pub natural_of_digits : (ds : List ℕ) → 0 < length ds → all_ascii_digits ds ≡ true → natural_of ds ≡ Some (value_of ds)
 natural_of_digits [] some digits = absurd (omega arith)
 natural_of_digits (d ∷ ds) some digits = rw digits refl
 
@@ -32,7 +32,7 @@ natural_printed n low =
 digit_no_sign : (d : ℕ) → is_ascii_digit d ≡ true → (d == 45) ≡ false
 digit_no_sign d h = grind (arith, nat_tests)
 
-whole_of_digits : (ds : List ℕ) → all_ascii_digits ds ≡ true → whole_of ds ≡ option_map pos (natural_of ds)
+pub whole_of_digits : (ds : List ℕ) → all_ascii_digits ds ≡ true → whole_of ds ≡ option_map pos (natural_of ds)
 unfolding whole_of
 whole_of_digits [] digits = refl
 whole_of_digits (d ∷ ds) digits = rw (digit_no_sign d (and_parts (is_ascii_digit d) (all_ascii_digits ds) digits).0) refl
@@ -53,13 +53,13 @@ whole_printed (negsuc n) low = rw (natural_printed (suc n) (omega arith)) (ap (�
 digit_plain : (d : ℕ) → is_ascii_digit d ≡ true → not (is_blank d || is_feed d) ≡ true
 digit_plain d h = grind (arith, nat_tests)
 
-digits_plain : (ds : List ℕ) → all_ascii_digits ds ≡ true → list_all (λ b. not (is_blank b || is_feed b)) ds ≡ true
+pub digits_plain : (ds : List ℕ) → all_ascii_digits ds ≡ true → list_all (λ b. not (is_blank b || is_feed b)) ds ≡ true
 digits_plain [] h = refl
 digits_plain (d ∷ ds) h =
     let parts = and_parts (is_ascii_digit d) (all_ascii_digits ds) h in
     rw (digit_plain d parts.0, digits_plain ds parts.1) refl
 
-field_of_digits : (ds : List ℕ) → 0 < length ds → all_ascii_digits ds ≡ true → is_field ds ≡ true
+pub field_of_digits : (ds : List ℕ) → 0 < length ds → all_ascii_digits ds ≡ true → is_field ds ≡ true
 field_of_digits [] some h = absurd (omega arith)
 field_of_digits (d ∷ ds) some h = rw (eqb-suc-zero (length ds), digits_plain (d ∷ ds) h) refl
 

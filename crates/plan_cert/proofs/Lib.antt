@@ -4,3 +4,4 @@ pub mod NodeSumLemmas
 pub mod FailureLemmas
 pub mod TotalLemmas
 pub mod HoldingLemmas
+pub mod RawTexts

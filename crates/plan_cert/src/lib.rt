@@ -8,6 +8,7 @@ mod line_checks;
 mod names;
 mod node_sums;
 mod numbers;
+mod raw_certs;
 mod sums;
 #[cfg(test)]
 mod tests;
@@ -17,7 +18,8 @@ mod weights;
 pub use answers::{CertAnswer, CertFault, CertPlace};
 pub use cert_text::{
     Cert, CertClass, CertClasses, CertFlow, CertFlows, CertItem, CertItems, CertNode, CertNodes,
-    Numbers, read_cert,
+    Numbers, read_cert, write_cert,
 };
 pub use checks::check_raw;
+pub use raw_certs::raw_cert_of;
 pub use sums::Sums;

@@ -1,5 +1,6 @@
-use crate::{Sums, check_raw, read_cert};
+use crate::{Sums, check_raw, raw_cert_of, read_cert, write_cert};
 use bud_base::{End, Item, Listed, NodeId, Problem, Start};
+use bud_model::Plan;
 use std::process::Abort;
 use std::test::Fail;
 
@@ -125,5 +126,30 @@ fn judges_certificates(rt: HostRuntime) -> Result<(), Fail> {
         let found = answer(&rt, &problem, text.as_str())?;
         assert_eq!(rt; found.as_str(), want);
     }
+    Ok(())
+}
+
+#[test]
+fn writes_the_certificate_of_a_plan(rt: HostRuntime) -> Result<(), Fail> {
+    let problem = two_in_a_row(&rt)?;
+    let plan = Plan {
+        budgets: Listed::from_vec(vec![in rt.alloc(); 100, 50]?),
+        arrivals: Listed::from_vec(vec![in rt.alloc(); 0, 100, 150]?),
+        flow: Listed::from_vec(vec![in rt.alloc(); 2, 2]?),
+        start_flow: Listed::from_vec(vec![in rt.alloc(); 2]?),
+        end_flow: Listed::from_vec(vec![in rt.alloc(); 2]?),
+        weight: 400,
+    };
+    assert!(rt; plan.budgets.len() == problem.items.len());
+    assert!(rt; plan.arrivals.len() == problem.nodes as usize);
+    assert!(rt; plan.flow.len() == problem.items.len());
+    assert!(rt; plan.start_flow.len() == problem.starts.len());
+    assert!(rt; plan.end_flow.len() == problem.ends.len());
+    let cert = raw_cert_of(rt.alloc(), &problem, &plan)?;
+    let text = write_cert(rt.alloc(), &cert)?;
+    let nodes = "certificate 1\nnode 0 0 0\nnode 1 0 100\nnode 2 0 150\n";
+    let others = "item 0 1 0 100 2\nitem 1 2 0 50 2\nstart 0 0 2\nend 2 0 2\nweight 400\n";
+    let want = format!(in rt.alloc(); "{nodes}{others}")?;
+    assert_eq!(rt; text.as_slice(), want.as_bytes());
     Ok(())
 }
