@@ -1,9 +1,8 @@
 use crate::disk::DiskShelf;
 use crate::printed::StdSink;
 use bud_shelf::{Shelf, ShelfFault, Sink};
-use std::fs;
 use std::test::Fail;
-use std::{env, process};
+use std::{env, fs, process};
 
 #[test]
 fn a_file_reads_as_it_was_written(rt: HostRuntime) -> Result<(), Fail> {
@@ -14,7 +13,10 @@ fn a_file_reads_as_it_was_written(rt: HostRuntime) -> Result<(), Fail> {
     let name = format!(in rt.alloc(); "{folder}/disk_shelf_{number}")?;
     let mut shelf = DiskShelf::new(&rt);
     let mut read = Vec::new(rt.alloc());
-    assert_eq!(rt; shelf.read(name.as_str(), &mut read), Err(ShelfFault::Missing));
+    assert_eq!(rt;
+        shelf.read(name.as_str(), &mut read),
+        Err(ShelfFault::Missing)
+    );
     shelf.write(name.as_str(), b"first and longer")?;
     shelf.write(name.as_str(), b"second")?;
     shelf.read(name.as_str(), &mut read)?;
