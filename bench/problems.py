@@ -1,5 +1,7 @@
 #!/usr/bin/env python3
-"""Measures `raw` on layered random problems, as ratios to md5sum of the same file in the same run.
+"""Measures `raw` on layered random problems and chains, and `prove` on a layered problem with its certificate.
+
+Times are ratios to md5sum of the same files in the same run.
 
 usage: bench/problems.py PROGRAM [ITEMS ..]      PROGRAM as `rt ci` or `rt run` leaves it: crates/budget_cli/out/budget_cli
 """
@@ -12,7 +14,7 @@ import tempfile
 import time
 
 
-def layered(items, path, seed=1):
+def layered(items, path, seed=1, weights=10):
     """Writes a problem of this many items over layers of nodes; every node lies on a path."""
     draw = random.Random(seed)
     width = 100
@@ -23,12 +25,12 @@ def layered(items, path, seed=1):
     for layer in range(1, layers):
         for place in range(width):
             to = layer * width + place
-            lines.append(item(draw, to - width, to))
+            lines.append(item(draw, to - width, to, weights))
             left -= 1
     while left > 0:
         layer = draw.randrange(1, layers)
         start = (layer - 1) * width + draw.randrange(width)
-        lines.append(item(draw, start, layer * width + draw.randrange(width)))
+        lines.append(item(draw, start, layer * width + draw.randrange(width), weights))
         left -= 1
     for place in range(width):
         lines.append(f"start {place} {draw.randrange(1000)}")
@@ -38,9 +40,33 @@ def layered(items, path, seed=1):
         file.write("\n".join(lines) + "\n")
 
 
-def item(draw, start, to):
+def item(draw, start, to, weights):
     least = draw.randrange(100)
-    return f"item {start} {to} {least} {least + draw.randrange(1000)} {draw.randrange(10)}"
+    return f"item {start} {to} {least} {least + draw.randrange(1000)} {draw.randrange(weights)}"
+
+
+def certified(items, path):
+    """Writes a problem without weights, and beside it the certificate whose budgets are the least delays."""
+    layered(items, path, weights=1)
+    with open(path) as file:
+        rows = [line.split() for line in file]
+    nodes = int(rows[1][1])
+    arcs = [(int(row[1]), int(row[2]), int(row[3])) for row in rows if row[0] == "item"]
+    starts = [(int(row[1]), int(row[2])) for row in rows if row[0] == "start"]
+    ends = [int(row[1]) for row in rows if row[0] == "end"]
+    arrivals = [0] * nodes
+    for node, offset in starts:
+        arrivals[node] = max(arrivals[node], offset)
+    for start, to, least in sorted(arcs):
+        arrivals[to] = max(arrivals[to], arrivals[start] + least)
+    lines = ["certificate 1"]
+    lines += [f"node {node} 0 {arrival}" for node, arrival in enumerate(arrivals)]
+    lines += [f"item {start} {to} 0 {least} 0" for start, to, least in arcs]
+    lines += [f"start {node} 0 0" for node, _ in starts]
+    lines += [f"end {node} 0 0" for node in ends]
+    lines += ["weight 0"]
+    with open(path + ".cert", "w") as file:
+        file.write("\n".join(lines) + "\n")
 
 
 def chain(items, path):
@@ -66,12 +92,13 @@ def run(words):
 
 
 def report(name, program, items, path):
-    size = os.path.getsize(path)
-    sum_seconds, _, _ = run(["md5sum", path])
-    seconds, memory, status = run([program, "raw", path])
+    files = [path, path + ".cert"] if name == "certified" else [path]
+    size = sum(os.path.getsize(file) for file in files)
+    sum_seconds, _, _ = run(["md5sum", *files])
+    seconds, memory, status = run([program, "prove" if name == "certified" else "raw", *files])
     beside = (memory - size) / items
     print(
-        f"{name:8} {items:9} items {size / 1e6:7.1f} MB   status {status}   {seconds:7.3f} s = {seconds / sum_seconds:5.1f} md5sum"
+        f"{name:9} {items:9} items {size / 1e6:7.1f} MB   status {status}   {seconds:7.3f} s = {seconds / sum_seconds:5.1f} md5sum"
         f"   {memory / 1e6:7.1f} MB, {beside:6.1f} bytes an item beside the text"
     )
 
@@ -81,7 +108,7 @@ def make(kind, items, path):
     subprocess.run([sys.executable, __file__, "--make", kind, str(items), path], check=True)
 
 
-KINDS = {"layered": layered, "chain": chain}
+KINDS = {"layered": layered, "chain": chain, "certified": certified}
 
 
 def main():
