@@ -1,9 +1,8 @@
 -- What came of a file between two counts of faults also came since an earlier count.
-use Rattle.std.proofs.Common.{◌≡◌, ◌⊎◌, ℕ, ◌≤◌, List, Option, Some, None, Result, Ok, Err, IfOk, string_bytes, arith, subst, inl, inr}
+use Rattle.std.proofs.Common.{◌≡◌, ℕ, ◌≤◌, List, Option, Some, None, Result, Ok, Err, IfOk, string_bytes, arith, subst, inl, inr}
 use Rattle.std.specs.declared.alloc.AllocError.{AllocError}
 use Rattle.bud_base.specs.declared.problems.Problem.{Problem}
 use Rattle.bud_shelf.specs.Outside.{Files, Rose, IsMissing}
-use Rattle.cert_text.specs.Texts.{IsReadAnswer as IsCertAnswer}
 use Rattle.budget_top.specs.declared.status.Status.{Status}
 use Rattle.budget_top.specs.declared.status.Status.TheVariants.{Done, Violated, Words, Fault, Refused, Design, Limit, Certificate, Memory}
 use Rattle.problem_text.specs.Problems.{IsReadAnswer as IsProblemAnswer}

@@ -14,13 +14,13 @@ use Rattle.problem_text.specs.Problems.{IsReadAnswer as IsProblemAnswer}
 use Rattle.problem_text.proofs.ProblemLaws.{answer_reads as problem_reads, one_reading as one_problem}
 use Rattle.budget_top.specs.declared.status.Status.{Status}
 use Rattle.budget_top.specs.declared.status.Status.TheVariants.{Words, Memory}
-use Rattle.budget_top.specs.Inputs.{IsRefusal, Holds}
+use Rattle.budget_top.specs.Inputs.{Reader, IsRefusal, IsRefusedInput, Holds}
 use Rattle.budget_top.specs.Codes.{code_of}
 use Rattle.budget_top.specs.Words.{Asked, raw, prove}
 use Rattle.budget_top.specs.Runs.{IsOutcome, answered, IsRun, CallsFor, IsCalled}
-use Rattle.budget_top.specs.Raw.{IsUnsound, IsJudged, IsRaw}
+use Rattle.budget_top.specs.Raw.{IsJudged, IsRaw}
 use Rattle.budget_top.specs.Prove.{IsExamined, IsWeighed, IsProve}
-use Rattle.budget_top.proofs.InputStatus.{ReadsOnce, Refusal, refusal_of, one_refusal, refusal_apart, one_held}
+use Rattle.budget_top.proofs.InputStatus.{ReadsOnce, refusal_of, one_refusal, refusal_apart, one_held}
 use Rattle.budget_top.proofs.ProblemStatus.{unsoundness_of, unsoundness_apart, one_unsoundness, measure_of, one_measure}
 use Rattle.budget_top.proofs.VerdictStatus.{verdict_of, one_verdict}
 
@@ -76,80 +76,52 @@ one_examined p c a b x y first second = elim first [
 not_risen : Rose 0 0 → ⊥
 not_risen rose = absurd (omega arith)
 
--- told files have one outcome of the job raw
+-- an input file is refused in one way or holds one value, and where what follows from the value has one status, so has the whole
+one_input : {V : Type 0} (reads : Reader V) → ReadsOnce reads → (files : Files) (before now : ℕ) (name : List ℕ) (a b : Status) (x y : List ℕ) (First Second : V → Type 0)
+    → IsRefusedInput reads (Some files) before now name a x ⊎ ((value : V) × (Holds reads (Some files) name value × First value))
+    → IsRefusedInput reads (Some files) 0 0 name b y ⊎ ((value : V) × (Holds reads (Some files) name value × Second value))
+    → ((value : V) → First value → Second value → (a ≡ b) ⊎ Rose before now) → (a ≡ b) ⊎ Rose before now
+one_input reads once files before now name a b x y First Second first second follows = elim first [
+  | inl r ↦ elim (refusal_of reads files before now name a x r) [
+    | inl here ↦ elim second [
+      | inl r' ↦ elim (refusal_of reads files 0 0 name b y r') [
+        | inl there ↦ inl (one_refusal reads files name a b here there)
+        | inr rose ↦ absurd (not_risen rose)
+      ]
+      | inr h' ↦ absurd (refusal_apart reads once files name a h'.0 here h'.1.0)
+    ]
+    | inr rose ↦ inr rose
+  ]
+  | inr h ↦ elim second [
+    | inl r' ↦ elim (refusal_of reads files 0 0 name b y r') [
+      | inl there ↦ absurd (refusal_apart reads once files name b h.0 there h.1.0)
+      | inr rose ↦ absurd (not_risen rose)
+    ]
+    | inr h' ↦ follows h'.0 (subst First (one_held reads once files name h.0 h'.0 h.1.0 h'.1.0) h.1.1) h'.1.1
+  ]
+]
+
 one_raw : (files : Files) (before now : ℕ) (name : List ℕ) (a b : Status) (x y : List ℕ) → IsRaw (Some files) before now name a x
     → IsRaw (Some files) 0 0 name b y → (a ≡ b) ⊎ Rose before now
-one_raw files before now name a b x y first second = elim first [
-  | inl r ↦ elim (refusal_of IsProblemAnswer files before now name a x r) [
-    | inl here ↦ elim second [
-      | inl r' ↦ elim (refusal_of IsProblemAnswer files 0 0 name b y r') [
-        | inl there ↦ inl (one_refusal IsProblemAnswer files name a b here there)
-        | inr rose ↦ absurd (not_risen rose)
-      ]
-      | inr h' ↦ absurd (refusal_apart IsProblemAnswer problems_once files name a h'.0 here h'.1.0)
-    ]
-    | inr rose ↦ inr rose
-  ]
-  | inr h ↦ elim second [
-    | inl r' ↦ elim (refusal_of IsProblemAnswer files 0 0 name b y r') [
-      | inl there ↦ absurd (refusal_apart IsProblemAnswer problems_once files name b h.0 there h.1.0)
-      | inr rose ↦ absurd (not_risen rose)
-    ]
-    | inr h' ↦
-        let same = one_held IsProblemAnswer problems_once files name h.0 h'.0 h.1.0 h'.1.0 in
-        inl (one_judged h'.0 a b x y (subst (λ (p : Problem). IsJudged p a x) same h.1.1) h'.1.1)
-  ]
-]
+one_raw files before now name a b x y first second =
+    one_input IsProblemAnswer problems_once files before now name a b x y (λ p. IsJudged p a x) (λ p. IsJudged p b y) first second
+    (λ p f s. inl (one_judged p a b x y f s))
 
--- and one verdict on a certificate
 one_weighed : (p : Problem) (files : Files) (before now : ℕ) (name : List ℕ) (a b : Status) (x y : List ℕ) → IsWeighed p (Some files) before now name a x
     → IsWeighed p (Some files) 0 0 name b y → (a ≡ b) ⊎ Rose before now
-one_weighed p files before now name a b x y first second = elim first [
-  | inl r ↦ elim (refusal_of IsCertAnswer files before now name a x r) [
-    | inl here ↦ elim second [
-      | inl r' ↦ elim (refusal_of IsCertAnswer files 0 0 name b y r') [
-        | inl there ↦ inl (one_refusal IsCertAnswer files name a b here there)
-        | inr rose ↦ absurd (not_risen rose)
-      ]
-      | inr h' ↦ absurd (refusal_apart IsCertAnswer certs_once files name a h'.0 here h'.1.0)
-    ]
-    | inr rose ↦ inr rose
-  ]
-  | inr h ↦ elim second [
-    | inl r' ↦ elim (refusal_of IsCertAnswer files 0 0 name b y r') [
-      | inl there ↦ absurd (refusal_apart IsCertAnswer certs_once files name b h.0 there h.1.0)
-      | inr rose ↦ absurd (not_risen rose)
-    ]
-    | inr h' ↦
-        let same = one_held IsCertAnswer certs_once files name h.0 h'.0 h.1.0 h'.1.0 in
-        inl (one_examined p h'.0 a b x y (subst (λ (c : Cert). IsExamined p c a x) same h.1.1) h'.1.1)
-  ]
-]
+one_weighed p files before now name a b x y first second =
+    one_input IsCertAnswer certs_once files before now name a b x y (λ c. IsExamined p c a x) (λ c. IsExamined p c b y) first second
+    (λ c f s. inl (one_examined p c a b x y f s))
 
--- told files have one outcome of the job prove
 one_prove : (files : Files) (before now : ℕ) (name cert : List ℕ) (a b : Status) (x y : List ℕ) → IsProve (Some files) before now name cert a x
     → IsProve (Some files) 0 0 name cert b y → (a ≡ b) ⊎ Rose before now
-one_prove files before now name cert a b x y first second = elim first [
-  | inl r ↦ elim (refusal_of IsProblemAnswer files before now name a x r) [
-    | inl here ↦ elim second [
-      | inl r' ↦ elim (refusal_of IsProblemAnswer files 0 0 name b y r') [
-        | inl there ↦ inl (one_refusal IsProblemAnswer files name a b here there)
-        | inr rose ↦ absurd (not_risen rose)
-      ]
-      | inr h' ↦ absurd (refusal_apart IsProblemAnswer problems_once files name a h'.0 here h'.1.0)
-    ]
-    | inr rose ↦ inr rose
-  ]
-  | inr h ↦ elim second [
-    | inl r' ↦ elim (refusal_of IsProblemAnswer files 0 0 name b y r') [
-      | inl there ↦ absurd (refusal_apart IsProblemAnswer problems_once files name b h.0 there h.1.0)
-      | inr rose ↦ absurd (not_risen rose)
-    ]
-    | inr h' ↦
-        let same = one_held IsProblemAnswer problems_once files name h.0 h'.0 h.1.0 h'.1.0 in
-        one_weighed h'.0 files before now cert a b x y (subst (λ (p : Problem). IsWeighed p (Some files) before now cert a x) same h.1.1) h'.1.1
-  ]
-]
+one_prove files before now name cert a b x y first second =
+    one_input IsProblemAnswer problems_once files before now name a b x y
+    (λ p. IsWeighed p (Some files) before now cert a x)
+    (λ p. IsWeighed p (Some files) 0 0 cert b y)
+    first
+    second
+    (λ p f s. one_weighed p files before now cert a b x y f s)
 
 -- told files have one outcome
 one_outcome : (job : Option Asked) (files : Files) (before now : ℕ) (a b : Status) (x y : List ℕ) → IsOutcome job (Some files) before now a x

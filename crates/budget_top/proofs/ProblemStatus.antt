@@ -1,5 +1,5 @@
 -- A problem has one status.
-use Rattle.std.proofs.Common.{◌≡◌, ◌⊎◌, ℕ, pos, ◌≤ℤ◌, ◌<ℤ◌, List, Some, None, Err, arith, inl, inr, refl}
+use Rattle.std.proofs.Common.{◌≡◌, ℕ, pos, ◌≤ℤ◌, ◌<ℤ◌, List, Err, arith, inl, inr, refl}
 use Rattle.std.proofs.lemmas.Int.{ints}
 use Rattle.bud_base.specs.Paths.{Path, IsPath, slack, least_of}
 use Rattle.bud_base.specs.Soundness.{IsSound, IsCheckAnswer}

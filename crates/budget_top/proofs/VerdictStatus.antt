@@ -1,5 +1,5 @@
 -- A certificate of a sound problem holds or has a fault, and not both.
-use Rattle.std.proofs.Common.{◌≡◌, ◌⊎◌, ℕ, pos, ◌<◌, List, length, arith, sym, ◌∙◌, inl, inr, refl}
+use Rattle.std.proofs.Common.{◌≡◌, ℕ, pos, List, arith, sym, ◌∙◌, inl, inr, refl}
 use Rattle.bud_base.specs.declared.problems.Problem.{Problem}
 use Rattle.cert_text.specs.Certs.{plan_in}
 use Rattle.cert_text.specs.declared.certs.Cert.{Cert}

@@ -12,7 +12,7 @@ use Rattle.plan_cert.specs.Raw.{IsRawCert, IsRawFault}
 use Rattle.plan_cert.specs.declared.answers.CertFault.{CertFault}
 use Rattle.problem_text.specs.Problems.{IsReadAnswer as IsProblemAnswer}
 use Rattle.budget_top.specs.declared.status.Status.{Status}
-use Rattle.budget_top.specs.declared.status.Status.TheVariants.{Done, Violated, Words, Fault, Refused, Design, Limit, Certificate, Memory}
+use Rattle.budget_top.specs.declared.status.Status.TheVariants.{Done, Certificate}
 use Rattle.budget_top.specs.Inputs.{IsRefusedInput, Holds}
 use Rattle.budget_top.specs.Raw.{IsUnsound}
 use Rattle.budget_top.specs.Certificates.{holds_text, certificate_text}
