@@ -5,3 +5,4 @@ pub mod Networks
 pub mod Insides
 pub mod Sweeps
 pub mod Balances
+pub mod Trims
