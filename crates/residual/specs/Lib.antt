@@ -6,3 +6,4 @@ pub mod Insides
 pub mod Sweeps
 pub mod Balances
 pub mod Trims
+pub mod Walks
