@@ -5,3 +5,5 @@ pub mod Networks
 pub mod Insides
 pub mod Sweeps
 pub mod Balances
+pub mod Trims
+pub mod Walks

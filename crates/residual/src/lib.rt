@@ -4,6 +4,7 @@
 mod arcs;
 mod arrivals;
 mod nets;
+mod walks;
 
 pub use arcs::Look;
 pub use nets::Net;
