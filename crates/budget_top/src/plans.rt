@@ -6,7 +6,10 @@ ghost use Rattle.budget_top.specs.Raw.{IsCertText};
 
 use bud_base::{Problem, Steps, Text};
 use bud_model::Plan;
+use duals::plan_of;
+use flow_solver::solve;
 use plan_cert::{raw_cert_of, write_cert};
+use residual::Net;
 use std::alloc::{AllocError, Global};
 use std::marker::Brand;
 use std::sync::ledger::{Blank, Ledger};
@@ -33,6 +36,8 @@ fn best_plan<L: Ledger>(alloc: Global, problem: &Problem, blank: Blank) -> Resul
     ensures holds { IfOk result (IsHolding problem.now) }
     ensures numbers { IfOk result HasPlanNumbers }
 {
-    let _ = blank;
-    Err(AllocError)
+    let mut net = Net::new(alloc, problem)?;
+    let mut steps = Steps::<L>::new(blank);
+    solve(alloc, &mut net, problem, &mut steps)?;
+    plan_of(alloc, &net, problem)
 }
