@@ -14,7 +14,7 @@ use Rattle.bud_flow.specs.Sums.{number_at}
 use Rattle.bud_flow.specs.Arrivals.{Suit}
 use Rattle.residual.specs.Bounds.{IsSmall, AllWithin}
 use Rattle.residual.specs.Arcs.{arc_at, full, limited_arc, open_arc, start_arc, end_arc, CanCarry, first_flow, HoldsReduced}
-use Rattle.residual.specs.Networks.{Network, IsLawful, Fits, IsFresh}
+use Rattle.residual.specs.Networks.{Network, HasShape, IsLawful, Fits, IsFresh}
 use Rattle.residual.specs.Sweeps.{AreReached}
 use Rattle.residual.proofs.Blocks.{get_or-first, get_or-second, get_or-third, get_or-fourth, by_block}
 use Rattle.residual.proofs.Pairs.{HoldsPair, gap, HoldsReduced-from_pair}
@@ -164,6 +164,22 @@ AllWithin-reached p potentials sound meets reached v below = elim (cases_lt v p.
       record { low = omega (arith, ints, zero_there); high = omega (arith, ints, zero_there) }
 ]
 
+HasShape-fresh : (p : Problem) (arcs : List Arc) → IsSound p → HasBlocks p limited_arc open_arc (start_arc p.nodes) (end_arc p.nodes) (arc_at arcs)
+    → HasShape p.nodes (length p.items) (length p.starts) (length p.ends) arcs
+HasShape-fresh p arcs sound blocks = record {
+  limited_from = λ i within. rw (blocks.first i within) (sound_item p i sound within).from;
+  limited_to = λ i within. rw (blocks.first i within) (sound_item p i sound within).to;
+  open_from = λ i within. rw (blocks.second i within) (sound_item p i sound within).from;
+  open_to = λ i within. rw (blocks.second i within) (sound_item p i sound within).to;
+  open_limit = λ i within. rw (blocks.second i within) refl;
+  start_from = λ s within. rw (blocks.third s within) refl;
+  start_to = λ s within. rw (blocks.third s within) (sound_start p s sound within).node;
+  start_limit = λ s within. rw (blocks.third s within) refl;
+  end_from = λ e within. rw (blocks.fourth e within) (sound_end p e sound within).node;
+  end_to = λ e within. rw (blocks.fourth e within) refl;
+  end_limit = λ e within. rw (blocks.fourth e within) refl;
+}
+
 pub IsLawful-fresh : (p : Problem) (arcs : List Arc) (flows kept potentials : List ℤ) → IsSound p → Meets p → AreFreshLists p arcs flows kept potentials
     → IsLawful (fresh_network p arcs flows kept potentials)
 IsLawful-fresh p arcs flows kept potentials sound meets fresh =
@@ -180,6 +196,7 @@ IsLawful-fresh p arcs flows kept potentials sound meets fresh =
         kept = ap length fresh.kept_are ∙ fresh.reached.size;
         potentials = fresh.reached.size;
         joins = record { from = λ j below. (good j below).from; to = λ j below. (good j below).to };
+        shape = HasShape-fresh p arcs sound (arc_blocks p arcs flows kept potentials fresh);
         count = omega (arith, size, sound.limits.items, sound.limits.starts, sound.limits.ends);
       };
       flows = λ j below. (good j below).carries;

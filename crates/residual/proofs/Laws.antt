@@ -85,6 +85,7 @@ IsLawful-pushed net key amount lawful is_key reduced tight least room = record {
     kept = lawful.sizes.potentials;
     potentials = lawful.sizes.potentials;
     joins = lawful.sizes.joins;
+    shape = lawful.sizes.shape;
     count = lawful.sizes.count;
   };
   flows = CarryAll-after net.arcs net.flows key amount lawful.flows lawful.sizes.flows is_key least room;
@@ -104,6 +105,7 @@ IsLawful-lifted net v time lawful is_node small = record {
     kept = lawful.sizes.kept;
     potentials = length-set net.potentials v time ∙ lawful.sizes.potentials;
     joins = lawful.sizes.joins;
+    shape = lawful.sizes.shape;
     count = lawful.sizes.count;
   };
   flows = lawful.flows;

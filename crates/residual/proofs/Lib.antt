@@ -10,3 +10,6 @@ pub mod Ends
 pub mod Balance
 pub mod Theory
 pub mod Pushing
+pub mod Walking
+pub mod Marking
+pub mod Surplus

@@ -17,8 +17,9 @@ network_of net = record {
   is_open = net.is_open;
 }
 
--- the law of the network, and its excesses are at hand
+-- the law of the network, its excesses are at hand, and there is a mark for each node and the root
 pub record IsKeeping (net : Inside) : Type 0 where
   pub lawful : IsLawful (network_of net)
   pub excess_size : length net.excess.items ≡ net.nodes + 1
   pub excesses : AreExcesses net.arcs.items net.flows.items net.excess.items
+  pub ways : length net.ways.items ≡ net.nodes + 1

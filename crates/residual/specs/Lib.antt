@@ -5,3 +5,6 @@ pub mod Networks
 pub mod Insides
 pub mod Sweeps
 pub mod Balances
+pub mod Trims
+pub mod Walks
+pub mod Comparisons

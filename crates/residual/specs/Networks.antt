@@ -3,7 +3,7 @@ use Rattle.std.specs.Prelude.{◌≡◌, ℕ, ℤ, pos, ◌+◌, ◌*◌, ◌^�
 use Rattle.bud_base.specs.Paths.{item_at, start_at, end_at}
 use Rattle.bud_base.specs.declared.problems.Problem.{Problem}
 use Rattle.bud_flow.specs.Sums.{number_at}
-use Rattle.residual.specs.Arcs.{arc_at, limited_arc, open_arc, start_arc, end_arc, residual_at, HoldsReduced, CarryAll, JoinBelow, first_flow}
+use Rattle.residual.specs.Arcs.{arc_at, full, limited_arc, open_arc, start_arc, end_arc, residual_at, HoldsReduced, CarryAll, JoinBelow, first_flow}
 use Rattle.residual.specs.Bounds.{AllWithin}
 use Rattle.residual.specs.Excesses.{excess_of}
 use Rattle.residual.specs.declared.arcs.Arc.{Arc}
@@ -48,6 +48,21 @@ start_flow_at net s = number_at net.flows (net.items + net.items + s)
 abbrev pub end_flow_at : Network → ℕ → ℤ
 end_flow_at net e = number_at net.flows (net.items + net.items + net.starts + e)
 
+-- The arcs of the items join nodes below the root. Those of the starts come from the root, and those of the ends lead to it.
+-- All but the first arc of each item are without limit.
+pub record HasShape (root items starts ends : ℕ) (arcs : List Arc) : Type 0 where
+  pub limited_from : (i : ℕ) → i < items → (arc_at arcs i).from.0 < root
+  pub limited_to : (i : ℕ) → i < items → (arc_at arcs i).to.0 < root
+  pub open_from : (i : ℕ) → i < items → (arc_at arcs (items + i)).from.0 < root
+  pub open_to : (i : ℕ) → i < items → (arc_at arcs (items + i)).to.0 < root
+  pub open_limit : (i : ℕ) → i < items → (arc_at arcs (items + i)).limit ≡ full
+  pub start_from : (s : ℕ) → s < starts → (arc_at arcs (items + items + s)).from.0 ≡ root
+  pub start_to : (s : ℕ) → s < starts → (arc_at arcs (items + items + s)).to.0 < root
+  pub start_limit : (s : ℕ) → s < starts → (arc_at arcs (items + items + s)).limit ≡ full
+  pub end_from : (e : ℕ) → e < ends → (arc_at arcs (items + items + starts + e)).from.0 < root
+  pub end_to : (e : ℕ) → e < ends → (arc_at arcs (items + items + starts + e)).to.0 ≡ root
+  pub end_limit : (e : ℕ) → e < ends → (arc_at arcs (items + items + starts + e)).limit ≡ full
+
 -- the network has an arc for each of its numbers, and a potential for each node and the root
 pub record HasSizes (net : Network) : Type 0 where
   pub arcs : length net.arcs ≡ net.items + net.items + net.starts + net.ends
@@ -55,6 +70,7 @@ pub record HasSizes (net : Network) : Type 0 where
   pub kept : length net.kept ≡ net.nodes + 1
   pub potentials : length net.potentials ≡ net.nodes + 1
   pub joins : JoinBelow (net.nodes + 1) net.arcs
+  pub shape : HasShape net.nodes net.items net.starts net.ends net.arcs
   pub count : length net.arcs < 2 ^ 32
 
 -- The law of a network. Its flows are at least 0 and within their limits, its kept potentials give each residual arc with room a reduced

@@ -3,7 +3,9 @@
 
 mod arcs;
 mod arrivals;
+mod comparisons;
 mod nets;
+mod walks;
 
 pub use arcs::Look;
 pub use nets::Net;

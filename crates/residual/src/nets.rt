@@ -1,4 +1,4 @@
-ghost use Rattle.std.specs.Prelude.{◌≡◌, ◌<◌, ◌+◌, ◌≤ℤ◌, ◌+ℤ◌, ◌-ℤ◌, ◌^◌, pos, false, true, slice_set, IfOk};
+ghost use Rattle.std.specs.Prelude.{◌≡◌, ◌<◌, ◌+◌, ◌≤ℤ◌, ◌+ℤ◌, ◌-ℤ◌, ◌^◌, ◌↔◌, pos, false, true, slice_set, IsTrue, IfOk};
 ghost use Rattle.bud_flow.specs.Sums.{number_at};
 
 use crate::arcs::{
@@ -6,6 +6,8 @@ use crate::arcs::{
     look_at, move_excess, number_in,
 };
 use crate::arrivals::least_arrivals;
+use crate::comparisons::{are_ends, are_limited, are_open, are_starts};
+use crate::walks::{Way, no_ways, trim_flows};
 use bud_base::{ItemId, NodeId, Problem, Steps};
 use std::alloc::{AllocError, Global};
 use std::marker::Model;
@@ -24,6 +26,8 @@ pub struct Net {
     kept: Vec<i64>,
     potentials: Vec<i64>,
     is_open: bool,
+    /// Room for the marks of `trim`, one a node and one for the root.
+    ways: Vec<Option<Way>>,
 }
 
 impl Model for Net {
@@ -44,8 +48,10 @@ impl Net {
     ghost use Rattle.bud_flow.specs.Arrivals.{Suit};
     ghost use Rattle.residual.specs.Arcs.{reduced_cost};
     ghost use Rattle.residual.specs.Bounds.{IsSmall, IsWithin};
+    ghost use Rattle.residual.specs.Balances.{HasNoExcess, HasRoom, total_start_flow};
     ghost use Rattle.residual.specs.Excesses.{flows_after};
     ghost use Rattle.residual.specs.Networks.{IsKey, residual, IsLawful, AreReduced, excess_at, item_flow_at, start_flow_at, end_flow_at, Fits, IsFresh};
+    ghost use Rattle.residual.specs.Trims.{AreLess, KeepsLimited, total_limit};
 
     /// The network of a problem, with the least arrivals as its potentials.
     pub fn new(alloc: Global, problem: &Problem) -> Result<Net, AllocError>
@@ -64,6 +70,7 @@ impl Net {
         let arcs = arcs_of(alloc, NodeId(problem.nodes), items, starts, ends)?;
         let flows = first_flows(alloc, &potentials, items, starts, ends)?;
         let excess = excesses_of(alloc, problem.nodes as usize + 1, &arcs, &flows)?;
+        let ways = no_ways(alloc, problem.nodes as usize + 1)?;
         Ok(Net {
             nodes: problem.nodes,
             items: items.len(),
@@ -75,7 +82,30 @@ impl Net {
             kept,
             potentials,
             is_open: false,
+            ways,
         })
+    }
+
+    /// Whether the network's nodes, items, starts and ends are those of the problem.
+    pub fn fits(&self, problem: &Problem) -> bool
+        ensures { IsTrue result ↔ Fits self.now problem.now }
+    {
+        let items = problem.items.as_slice();
+        let starts = problem.starts.as_slice();
+        let ends = problem.ends.as_slice();
+        if self.nodes != problem.nodes
+            || self.items != items.len()
+            || self.starts != starts.len()
+            || self.ends != ends.len()
+        {
+            return false;
+        }
+        let root = NodeId(self.nodes);
+        let first = self.items + self.items;
+        are_limited(&self.arcs, items)
+            && are_open(&self.arcs, self.items, items)
+            && are_starts(&self.arcs, first, root, starts)
+            && are_ends(&self.arcs, first + self.starts, root, ends)
     }
 
     /// Looks at a residual arc, which is a step.
@@ -165,5 +195,33 @@ impl Net {
         let amount = forward_amount(arc, amount);
         add_at(&mut self.flows, pair, amount);
         move_excess(&mut self.excess, &self.arcs, pair, amount);
+    }
+
+    /// Takes off the surpluses: as long as there is a walk over arcs with flow, from the root over a start, arcs without limit of items and
+    /// an end back to the root, the least of its flows is taken off all of its arcs.
+    ///
+    /// It changes nothing but flows, takes no memory and is no step. Where the network fits a problem, the starts are left with no more
+    /// than the sum of the weights.
+    pub fn trim(&mut self)
+        requires balanced { HasNoExcess self.old }
+        requires room { HasRoom self.old }
+        ensures same { self.new ≡ record self.old { flows = self.new.flows } }
+        ensures less { AreLess self.old.flows self.new.flows }
+        ensures limited { KeepsLimited self.old self.new.flows }
+        ensures balanced { HasNoExcess self.new }
+        ensures starts { total_start_flow self.new ≤ℤ total_limit self.new }
+        ensures lawful { IsLawful self.new }
+    {
+        let first = self.items + self.items;
+        let root = NodeId(self.nodes);
+        trim_flows(
+            &self.arcs,
+            &mut self.flows,
+            &mut self.ways,
+            root,
+            self.items,
+            first,
+            first + self.starts,
+        );
     }
 }

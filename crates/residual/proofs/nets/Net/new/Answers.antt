@@ -77,5 +77,6 @@ invariant_of-result c =
     record {
       lawful = returns-clause-lawful c;
       excess_size = c.in_ok-excess.ensures.size;
+      ways = c.in_ok-ways.ensures;
       excesses = subst Q c.deref-4.ensures.value (subst P c.deref-3.ensures.value c.in_ok-excess.ensures.excesses);
     }

@@ -1,0 +1,5 @@
+use Rattle.residual.specs.Walks.{AreWalksTaken, IsTakenAnswer}
+use Rattle.residual.proofs.walks.take_walks.Given as goal
+
+abbrev pub invariant-loop-start : goal.invariant-loop-start
+invariant-loop-start l = AreWalksTaken l.arcs l.first l.fn.flows l.flows × IsTakenAnswer l.arcs l.ways l.from l.start l.fn.flows l.flows l.is_taken
