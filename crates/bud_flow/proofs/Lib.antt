@@ -1,3 +1,4 @@
 pub mod Ints
 pub mod SumLemmas
 pub mod Exchange
+pub mod SumParts

@@ -1,26 +1,15 @@
 -- Sums over the four blocks of a network's arcs.
-use Rattle.std.proofs.Common.{◌≡◌, ◌==◌, ◌≢◌, ℕ, zero, suc, ℤ, pos, ◌+ℤ◌, ◌+◌, ◌<◌, length, arith, refl, ap, sym, ◌∙◌, cond, Bool, true, false, add-suc}
+use Rattle.std.proofs.Common.{◌≡◌, ◌==◌, ◌≢◌, ℕ, ℤ, pos, ◌+ℤ◌, ◌+◌, ◌<◌, length, arith, refl, ap, sym, ◌∙◌, cond, Bool, true, false}
 use Rattle.std.proofs.lemmas.Int.{ints}
 use Rattle.std.proofs.lemmas.Bool.{ne_eqb}
-use Rattle.std.proofs.Math.IntN.{+ℤ_idr}
 use Rattle.bud_base.specs.Paths.{item_at, start_at, end_at}
 use Rattle.bud_base.specs.declared.problems.Problem.{Problem}
 use Rattle.bud_flow.specs.Sums.{sum_below, sum_at, number_at}
 use Rattle.bud_flow.specs.Flows.{Flow, flow_into, flow_out_of}
+use Rattle.bud_flow.proofs.SumParts.{sum_below-blocks}
 use Rattle.bud_flow.proofs.SumLemmas.{sum_below-same, sum_below-add, sum_below-none}
 use Rattle.residual.specs.Arcs.{arc_at}
 use Rattle.residual.specs.Networks.{Network, HasSizes, Fits, excess_at, item_flow_at, start_flow_at, end_flow_at}
-
--- a sum in two parts
-pub sum_below-parts : (m n : ℕ) (f : ℕ → ℤ) → sum_below (m + n) f ≡ sum_below m f +ℤ sum_below n (λ k. f (m + k))
-sum_below-parts m zero f = let e : m + zero ≡ m = omega arith in ap (λ k. sum_below k f) e ∙ sym (+ℤ_idr (sum_below m f))
-sum_below-parts m (suc n) f = rw (add-suc m n) (omega (arith, ints, sum_below-parts m n f))
-
--- a sum in four
-pub sum_below-blocks : (m n o k : ℕ) (f : ℕ → ℤ)
-    → sum_below (m + n + o + k) f
-    ≡ (sum_below m f +ℤ sum_below n (λ i. f (m + i))) +ℤ (sum_below o (λ i. f (m + n + i)) +ℤ sum_below k (λ i. f (m + n + o + i)))
-sum_below-blocks m n o k f = omega (arith, ints, sum_below-parts (m + n + o) k f, sum_below-parts (m + n) o f, sum_below-parts m n f)
 
 -- a number at one place is none at any other
 elsewhere : (place v : ℕ) (z : ℤ) → place ≢ v → cond (place == v) z (pos 0) ≡ pos 0

@@ -7,3 +7,4 @@ pub mod Lifting
 pub mod Amounts
 pub mod PushSteps
 pub mod Augments
+pub mod Settling

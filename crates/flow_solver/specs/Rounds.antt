@@ -1,7 +1,7 @@
 -- Rounds of searching and pushing.
 use Rattle.std.specs.Prelude.{◌≡◌, ℕ, pos, ◌+ℤ◌, ◌<◌, ◌≤ℤ◌, ◌^◌, false, length}
 use Rattle.bud_flow.specs.Sums.{number_at}
-use Rattle.residual.specs.Networks.{Network}
+use Rattle.residual.specs.Networks.{Network, IsLawful}
 use Rattle.residual.specs.Balances.{surplus}
 use Rattle.flow_solver.specs.Pushes.{SameNetwork}
 
@@ -9,8 +9,8 @@ use Rattle.flow_solver.specs.Pushes.{SameNetwork}
 abbrev pub HasSlack : Network → Type 0
 HasSlack net = (j : ℕ) → j < length net.arcs → (number_at net.flows j +ℤ surplus net) ≤ℤ pos (2 ^ 43)
 
--- some rounds are done
+-- some rounds are done; every network is lawful, which its calls tell
 pub record AreRounds (old new : Network) : Type 0 where
   pub same : SameNetwork old new
   pub closed : new.is_open ≡ false
-  pub slack : HasSlack new
+  pub slack : IsLawful new → HasSlack new

@@ -5,3 +5,5 @@ mod entries;
 mod pushes;
 mod searches;
 mod solving;
+
+pub use solving::solve;

@@ -1,7 +1,7 @@
-ghost use Rattle.std.specs.Prelude.{◌≡◌, ℕ, ◌+◌, ◌<◌, ◌<ℤ◌, pos, false, length};
+ghost use Rattle.std.specs.Prelude.{◌≡◌, ℕ, ◌+◌, ◌<◌, ◌<ℤ◌, pos, false, length, OnOk, OnErr};
 ghost use Rattle.bud_base.specs.Soundness.{IsSound};
-ghost use Rattle.residual.specs.Networks.{Fits, IsLawful, excess_at};
-ghost use Rattle.residual.specs.Balances.{HasRoom, HasNoExcess};
+ghost use Rattle.residual.specs.Networks.{Fits, IsFresh, IsLawful, excess_at};
+ghost use Rattle.residual.specs.Balances.{HasRoom, HasNoExcess, IsSettled};
 ghost use Rattle.flow_solver.specs.Pushes.{IsAugmented};
 ghost use Rattle.flow_solver.specs.Searches.{AreSeeded};
 ghost use Rattle.flow_solver.specs.Rounds.{HasSlack, AreRounds};
@@ -11,6 +11,7 @@ use crate::pushes::{amount_along, push_along, raise};
 use crate::searches::{search, seed};
 use bud_base::{Problem, Steps};
 use residual::Net;
+use std::alloc::{AllocError, Global};
 use std::sync::ledger::Ledger;
 
 /// Settles excess: searches from the nodes that have some for one that lacks flow, and pushes along the way.
@@ -45,7 +46,7 @@ fn settle<L: Ledger>(
     requires sound { IsSound problem.now }
     requires fits { Fits net.old problem.now }
     requires closed { net.old.is_open ≡ false }
-    requires slack { HasSlack net.old }
+    requires slack { IsLawful net.old → HasSlack net.old }
     requires size { length entries.old ≡ problem.now.nodes + 1 }
     ensures rounds { AreRounds net.old net.new }
     ensures lawful { IsLawful net.new }
@@ -54,4 +55,27 @@ fn settle<L: Ledger>(
     'rounds: while seed(net, problem.nodes, entries) {
         augment(net, problem, entries, steps);
     }
+}
+
+/// Settles all excess of a problem's network as it was made, in steps that are looks at residual arcs.
+///
+/// All memory is taken first: for want of it nothing changes.
+pub fn solve<L: Ledger>(
+    alloc: Global,
+    net: &mut Net,
+    problem: &Problem,
+    steps: &mut Steps<L>,
+) -> Result<(), AllocError>
+    requires sound { IsSound problem.now }
+    requires fits { Fits net.old problem.now }
+    requires fresh { IsFresh problem.now net.old }
+    ensures settled { OnOk result (IsSettled net.new) }
+    ensures lawful { OnOk result (IsLawful net.new) }
+    ensures fits { Fits net.new problem.now }
+    ensures same { OnErr result (net.new ≡ net.old) }
+    ensures steps { OnErr result (steps.new ≡ steps.old) }
+{
+    let mut entries = vec![in alloc; None; problem.nodes as usize + 1]?;
+    settle(net, problem, &mut entries, steps);
+    Ok(())
 }

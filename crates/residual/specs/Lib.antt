@@ -7,3 +7,4 @@ pub mod Sweeps
 pub mod Balances
 pub mod Trims
 pub mod Walks
+pub mod Comparisons

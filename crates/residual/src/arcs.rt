@@ -8,7 +8,7 @@ use bud_base::{End, Item, NodeId, Start};
 use std::alloc::{AllocError, Global};
 
 /// The flow at which an arc without limit is full: 2^80.
-const FULL: i128 = 1_208_925_819_614_629_174_706_176;
+pub const FULL: i128 = 1_208_925_819_614_629_174_706_176;
 
 /// An arc, without its flow.
 #[derive(Clone, Copy, Debug, PartialEq, Eq)]

@@ -3,6 +3,7 @@
 
 mod arcs;
 mod arrivals;
+mod comparisons;
 mod nets;
 mod walks;
 

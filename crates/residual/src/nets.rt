@@ -1,4 +1,4 @@
-ghost use Rattle.std.specs.Prelude.{◌≡◌, ◌<◌, ◌+◌, ◌≤ℤ◌, ◌+ℤ◌, ◌-ℤ◌, ◌^◌, pos, false, true, slice_set, IfOk};
+ghost use Rattle.std.specs.Prelude.{◌≡◌, ◌<◌, ◌+◌, ◌≤ℤ◌, ◌+ℤ◌, ◌-ℤ◌, ◌^◌, ◌↔◌, pos, false, true, slice_set, IsTrue, IfOk};
 ghost use Rattle.bud_flow.specs.Sums.{number_at};
 
 use crate::arcs::{
@@ -6,6 +6,7 @@ use crate::arcs::{
     look_at, move_excess, number_in,
 };
 use crate::arrivals::least_arrivals;
+use crate::comparisons::{are_ends, are_limited, are_open, are_starts};
 use crate::walks::{Way, no_ways, trim_flows};
 use bud_base::{ItemId, NodeId, Problem, Steps};
 use std::alloc::{AllocError, Global};
@@ -83,6 +84,28 @@ impl Net {
             is_open: false,
             ways,
         })
+    }
+
+    /// Whether the network's nodes, items, starts and ends are those of the problem.
+    pub fn fits(&self, problem: &Problem) -> bool
+        ensures { IsTrue result ↔ Fits self.now problem.now }
+    {
+        let items = problem.items.as_slice();
+        let starts = problem.starts.as_slice();
+        let ends = problem.ends.as_slice();
+        if self.nodes != problem.nodes
+            || self.items != items.len()
+            || self.starts != starts.len()
+            || self.ends != ends.len()
+        {
+            return false;
+        }
+        let root = NodeId(self.nodes);
+        let first = self.items + self.items;
+        are_limited(&self.arcs, items)
+            && are_open(&self.arcs, self.items, items)
+            && are_starts(&self.arcs, first, root, starts)
+            && are_ends(&self.arcs, first + self.starts, root, ends)
     }
 
     /// Looks at a residual arc, which is a step.
