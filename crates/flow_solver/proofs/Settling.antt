@@ -1,5 +1,5 @@
 -- A network as it was made has slack, and one whose excess is settled carries little.
-use Rattle.std.proofs.Common.{◌≡◌, ◌==◌, ℕ, ℤ, pos, ◌-ℤ◌, ◌*ℤ◌, ◌≤ℤ◌, ◌+◌, ◌<◌, ◌^◌, length, arith, ap, sym, ◌∙◌, cond, Bool, true, false}
+use Rattle.std.proofs.Common.{◌≡◌, ◌==◌, ℕ, ℤ, pos, ◌-ℤ◌, ◌*ℤ◌, ◌≤ℤ◌, ◌+◌, ◌<◌, ◌^◌, length, arith, ap, sym, subst, ◌∙◌, cond, Bool, true, false}
 use Rattle.std.specs.Prelude.{int_lt}
 use Rattle.std.proofs.lemmas.Int.{ints, by_lt_z}
 use Rattle.bud_base.specs.Paths.{item_at}
@@ -10,7 +10,9 @@ use Rattle.bud_flow.proofs.SumLemmas.{sum_below-same, sum_below-le, sum_below-no
 use Rattle.bud_flow.proofs.SumParts.{sum_below-blocks, sum_below-constant}
 use Rattle.residual.specs.Arcs.{arc_at, first_flow}
 use Rattle.residual.specs.Networks.{Network, IsLawful, Fits, IsFresh, excess_at, item_flow_at}
-use Rattle.residual.specs.Balances.{above, surplus, HasNoExcess, IsSettled}
+use Rattle.residual.specs.Balances.{above, surplus, HasNoExcess, IsSettled, total_weight}
+use Rattle.residual.specs.Trims.{AreLess, total_limit}
+use Rattle.flow_solver.specs.Pushes.{SameNetwork}
 use Rattle.residual.proofs.Balance.{sum_below-least}
 use Rattle.residual.proofs.Blocks.{by_block}
 use Rattle.residual.proofs.Sweeping.{sound_item}
@@ -106,3 +108,31 @@ IsSettled-slack net lawful closed slack balanced =
       starts = λ s within. omega (arith, ints, small (net.items + net.items + s) (omega (arith, lawful.sizes.arcs)));
       ends = λ e within. omega (arith, ints, small (net.items + net.items + net.starts + e) (omega (arith, lawful.sizes.arcs)));
     }
+
+-- ---- surpluses are taken off
+-- nothing but flows has changed, and none has risen
+pub IsSettled-trimmed : (old new : Network) → IsSettled old → new ≡ record old { flows = new.flows } → AreLess old.flows new.flows → HasNoExcess new → IsSettled new
+IsSettled-trimmed old new settled same less balanced =
+    let fewer : IsSettled (record old { flows = new.flows }) = record {
+      balanced = subst HasNoExcess same balanced;
+      closed = settled.closed;
+      items = λ i within. omega (arith, ints, settled.items i within, less.less i, less.less (old.items + i));
+      starts = λ s within. omega (arith, ints, settled.starts s within, less.less (old.items + old.items + s));
+      ends = λ e within. omega (arith, ints, settled.ends e within, less.less (old.items + old.items + old.starts + e));
+    } in
+    subst IsSettled (sym same) fewer
+
+pub SameNetwork-trimmed : (old new : Network) → new ≡ record old { flows = new.flows } → SameNetwork old new
+SameNetwork-trimmed old new same = record {
+  nodes = ap (λ (n : Network). n.nodes) same;
+  items = ap (λ (n : Network). n.items) same;
+  starts = ap (λ (n : Network). n.starts) same;
+  ends = ap (λ (n : Network). n.ends) same;
+  arcs = ap (λ (n : Network). n.arcs) same;
+}
+
+-- what the first arcs of the items can carry is the sum of the weights
+pub total_limit-weight : (net : Network) (p : Problem) → Fits net p → total_limit net ≡ total_weight p
+total_limit-weight net p fits =
+    ap (λ n. sum_below n (λ i. (arc_at net.arcs i).limit)) fits.items
+    ∙ sum_below-same (length p.items) _ _ (λ i within. ap (λ a. a.limit) (fits.limited_arcs i within))

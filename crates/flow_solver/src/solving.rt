@@ -1,7 +1,7 @@
-ghost use Rattle.std.specs.Prelude.{◌≡◌, ℕ, ◌+◌, ◌<◌, ◌<ℤ◌, pos, false, length, OnOk, OnErr};
+ghost use Rattle.std.specs.Prelude.{◌≡◌, ℕ, ◌+◌, ◌<◌, ◌<ℤ◌, ◌≤ℤ◌, pos, false, length, OnOk, OnErr};
 ghost use Rattle.bud_base.specs.Soundness.{IsSound};
 ghost use Rattle.residual.specs.Networks.{Fits, IsFresh, IsLawful, excess_at};
-ghost use Rattle.residual.specs.Balances.{HasRoom, HasNoExcess, IsSettled};
+ghost use Rattle.residual.specs.Balances.{HasRoom, HasNoExcess, IsSettled, total_start_flow, total_weight};
 ghost use Rattle.flow_solver.specs.Pushes.{IsAugmented};
 ghost use Rattle.flow_solver.specs.Searches.{AreSeeded};
 ghost use Rattle.flow_solver.specs.Rounds.{HasSlack, AreRounds};
@@ -57,7 +57,7 @@ fn settle<L: Ledger>(
     }
 }
 
-/// Settles all excess of a problem's network as it was made, in steps that are looks at residual arcs.
+/// Settles all excess of a problem's network as it was made, and takes off the surpluses. A step is a look at a residual arc.
 ///
 /// All memory is taken first: for want of it nothing changes.
 pub fn solve<L: Ledger>(
@@ -70,6 +70,7 @@ pub fn solve<L: Ledger>(
     requires fits { Fits net.old problem.now }
     requires fresh { IsFresh problem.now net.old }
     ensures settled { OnOk result (IsSettled net.new) }
+    ensures starts { OnOk result (total_start_flow net.new ≤ℤ total_weight problem.now) }
     ensures lawful { OnOk result (IsLawful net.new) }
     ensures fits { Fits net.new problem.now }
     ensures same { OnErr result (net.new ≡ net.old) }
@@ -77,5 +78,6 @@ pub fn solve<L: Ledger>(
 {
     let mut entries = vec![in alloc; None; problem.nodes as usize + 1]?;
     settle(net, problem, &mut entries, steps);
+    net.trim();
     Ok(())
 }
