@@ -1,4 +1,5 @@
 pub mod Kinds
 pub mod Fronts
+pub mod Classes
 pub mod Tokens
 pub mod Spelling

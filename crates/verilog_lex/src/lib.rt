@@ -1,6 +1,7 @@
 //! The tokens of a Verilog text: identifiers, numbers, strings and signs, and what is skipped between them.
 #![tactic(auto)]
 
+mod classes;
 mod fronts;
 mod kinds;
 
