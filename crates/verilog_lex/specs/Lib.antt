@@ -3,3 +3,4 @@ pub mod Fronts
 pub mod Classes
 pub mod Tokens
 pub mod Spelling
+pub mod Progress

@@ -4,5 +4,7 @@
 mod classes;
 mod fronts;
 mod kinds;
+mod lexer;
 
 pub use kinds::{Kind, LexFault, Token, TokenList};
+pub use lexer::{one_list, tokens};
