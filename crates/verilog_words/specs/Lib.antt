@@ -1,3 +1,4 @@
 pub mod Reserved
 pub mod Outside
+pub mod Turns
 pub mod LeftOut

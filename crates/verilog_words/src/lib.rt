@@ -1,6 +1,7 @@
 //! The words of a Verilog text that aren't identifiers, and the first word that structural Verilog leaves out.
 #![tactic(auto)]
 
+mod regions;
 mod reserved;
 mod words;
 
