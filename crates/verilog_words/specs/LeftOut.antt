@@ -41,7 +41,7 @@ abbrev pub is_of_constant : List ℕ → List Token → Token → Bool
 is_of_constant text [] token = false
 is_of_constant text (nearest ∷ before) token =
     is_base text (nearest ∷ before) token
-    || (may_be_digits text token && is_of_constant text before nearest && (is_bare_base text before nearest || nearest.at + nearest.len == token.at))
+    || (is_of_constant text before nearest && may_be_digits text token && (is_bare_base text before nearest || nearest.at + nearest.len == token.at))
 
 -- the token is the name of a directive: it stands directly behind a backtick
 abbrev pub is_of_directive : List ℕ → List Token → Token → Bool

@@ -1,4 +1,4 @@
-ghost use Rattle.std.specs.Prelude.{◌≡◌, ◌+◌, ◌<◌, ◌≤◌, ℕ, Some, length, drop, IfSome};
+ghost use Rattle.std.specs.Prelude.{◌≡◌, ◌+◌, ◌<◌, ◌≤◌, ℕ, Some, length, drop};
 ghost use Rattle.std.specs.List.{All};
 ghost use Rattle.std.specs.Option.{ForSome};
 ghost use Rattle.verilog_lex.specs.Tokens.{IsWithin};
@@ -30,7 +30,7 @@ pub fn directive(text: &[u8], token: Token, behind: &[Token]) -> Option<Token>
     requires token { IsWithin (length text.now) token }
     requires behind { All (IsWithin (length text.now)) behind.now }
     ensures name { result ≡ directive text.now token behind.now }
-    ensures within { IfSome result (λ name. (token.at + 1 ≡ name.at) × IsWithin (length text.now) name) }
+    ensures within { ForSome result (λ name. (token.at + 1 ≡ name.at) × IsWithin (length text.now) name) }
 {
     let (name, _) = behind.split_first()?;
     if token.is_sign(text, b'`') && token.at + 1 == name.at && is_plain(text, *name) {
@@ -121,7 +121,7 @@ pub fn turn_at<'a>(
 ) -> Turn<'a>
     requires token { IsWithin (length text.now) token }
     requires behind { All (IsWithin (length text.now)) behind.now }
-    requires name { ForSome name (IsWithin (length text.now)) }
+    requires name { ForSome name (λ n. (token.at + 1 ≡ n.at) × IsWithin (length text.now) n) }
     ensures turn { turn_of result ≡ turn_at text.now leaves token behind.now name }
     ensures within { IsTurnWithin (length text.now) (length behind.now) result }
 {
