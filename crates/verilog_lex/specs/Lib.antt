@@ -1,0 +1,4 @@
+pub mod Kinds
+pub mod Fronts
+pub mod Tokens
+pub mod Spelling
