@@ -58,15 +58,20 @@ escaped behind =
     then Found Escaped (prefix_len is_ascii_graphic behind + 1)
     else Found Sign 1
 
--- what stands at the front of a text with this first byte and these behind it
-unfoldable pub front_of : ℕ → List ℕ → Front
-front_of b behind =
-    if begins_name b then Found Name (prefix_len is_of_name behind + 1)
-    else (if is_white b then Skipped (prefix_len is_white behind + 1)
-    else (if is_ascii_digit b then Found Number (prefix_len is_ascii_digit behind + 1)
-    else (if b == 47 && begins (λ c. c == 47) behind then Skipped (prefix_len is_of_line behind + 1)
+-- what stands at the front of a text with this first byte and these behind it: a comment, an attribute, a string, an
+-- escaped identifier or another sign
+unfoldable pub sign_front : ℕ → List ℕ → Front
+sign_front b behind =
+    if b == 47 && begins (λ c. c == 47) behind then Skipped (prefix_len is_of_line behind + 1)
     else (if b == 47 && begins (λ c. c == 42) behind then block_comment (before_pair 42 47 (drop 1 behind))
     else (if b == 40 && begins (λ c. c == 42) behind && not (begins (λ c. c == 41) (drop 1 behind)) then attribute (drop 1 behind) (before_pair 42 41 (drop 1 behind))
     else (if b == 34 then quoted behind
     else (if b == 92 then escaped behind
-    else (if is_ascii_graphic b then Found Sign 1 else Refused 0))))))))
+    else (if is_ascii_graphic b then Found Sign 1 else Refused 0)))))
+
+-- the same with any first byte: an identifier, white space, a number, or the above
+unfoldable pub front_of : ℕ → List ℕ → Front
+front_of b behind =
+    if begins_name b then Found Name (prefix_len is_of_name behind + 1)
+    else (if is_white b then Skipped (prefix_len is_white behind + 1)
+    else (if is_ascii_digit b then Found Number (prefix_len is_ascii_digit behind + 1) else sign_front b behind))
