@@ -3,6 +3,9 @@ use Rattle.std.proofs.Common.{◌≡◌, ℕ, zero, suc, ◌<◌, ◌≤◌, Boo
 use Rattle.std.proofs.lemmas.List.{append-nil}
 use Rattle.text_scan.specs.Left.{◌>>=◌}
 use Rattle.text_scan.specs.Repeat.{repeat}
+use Rattle.verilog_reader.specs.Answers.{Fails}
+use Rattle.verilog_reader.specs.declared.readings.Stop.{Stop}
+use Rattle.verilog_reader.specs.declared.readings.Stop.TheVariants.{Syntax, NoMemory}
 use Rattle.verilog_reader.specs.Repeats.{behind_values, GoesOn}
 
 -- what is read with one value in front
@@ -45,6 +48,11 @@ over stops step (suc n) s ends = rw ends refl
 pub turn_missed : {S X : Type 0} (stops : S → Bool) (step : S → Option (X × S)) (size : S → ℕ) (found : List X) (s : S) (all : Option (List X × S)) →
     GoesOn stops step size found s all → stops s ≡ false → step s ≡ None → all ≡ None
 turn_missed stops step size found s all given goes none = sym given.same ∙ ap (behind_values found) (missed stops step given.turns s goes none)
+
+pub turn_stops : {S X : Type 0} (stops : S → Bool) (step : S → Option (X × S)) (size : S → ℕ) (found : List X) (s : S) (all : Option (List X × S)) (stop : Stop) →
+    GoesOn stops step size found s all → stops s ≡ false → Fails stop (step s) → Fails stop all
+turn_stops stops step size found s all (Syntax at) given goes none = turn_missed stops step size found s all given goes none
+turn_stops stops step size found s all NoMemory given goes none = tt
 
 -- behind the last turn
 pub ended : {S X : Type 0} (stops : S → Bool) (step : S → Option (X × S)) (size : S → ℕ) (found : List X) (s : S) (all : Option (List X × S)) →

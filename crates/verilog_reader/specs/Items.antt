@@ -38,11 +38,16 @@ net_kind_of word =
 abbrev pub is_net_kind : Word → Bool
 is_net_kind word = is_some (net_kind_of word)
 
+unfoldable pub net_kind : Production Bool
+net_kind s = do
+  (word, s) ← next s
+  constant ← net_kind_of word
+  Some (constant, s)
+
 -- ("wire" | "tri" | "supply0" | "supply1") [range] id {"," id} ";"
 unfoldable pub nets_item : Production Item
 nets_item s = do
-  (word, s) ← next s
-  constant ← net_kind_of word
+  (constant, s) ← net_kind s
   (r, s) ← maybe_range s
   (names, s) ← separated id s
   s ← sign (byte ";") s
@@ -117,5 +122,5 @@ abbrev pub ends_module : Left → Bool
 ends_module s = begins (is_word (codes "endmodule")) s
 
 -- {item}, up to "endmodule"
-unfoldable pub items : Production (List Item)
+abbrev pub items : Production (List Item)
 items s = repeat ends_module body_item (size s) s

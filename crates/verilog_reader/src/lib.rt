@@ -3,6 +3,7 @@
 
 mod constants;
 mod declarations;
+mod items;
 mod joining;
 mod joints;
 mod left;
