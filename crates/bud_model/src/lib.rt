@@ -3,8 +3,13 @@
 
 mod edges;
 mod laws;
+mod modules;
 mod plans;
 
 pub use edges::Edge;
 pub use laws::{holding_plan_is_best, suited_budgets_fit, weight_is_at_most_value};
+pub use modules::{
+    Assign, Assigns, Dir, Instance, Instances, Link, LinkList, Module, Modules, NetDecl, Nets,
+    Piece, Pieces, Port, Ports, Range,
+};
 pub use plans::Plan;
