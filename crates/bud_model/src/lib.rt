@@ -1,11 +1,13 @@
 //! Plain values of the design and of plans, with what they mean, and the laws of budgets.
 #![tactic(auto)]
 
+mod delays;
 mod edges;
 mod laws;
 mod modules;
 mod plans;
 
+pub use delays::{SdfFile, SdfKind, SdfRow, SdfRows};
 pub use edges::Edge;
 pub use laws::{holding_plan_is_best, suited_budgets_fit, weight_is_at_most_value};
 pub use modules::{
