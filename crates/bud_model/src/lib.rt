@@ -1,10 +1,12 @@
 //! Plain values of the design and of plans, with what they mean, and the laws of budgets.
 #![tactic(auto)]
 
+mod constraints;
 mod edges;
 mod laws;
 mod plans;
 
+pub use constraints::{Object, Objects, SdcCommand, SdcCommands, SdcFile};
 pub use edges::Edge;
 pub use laws::{holding_plan_is_best, suited_budgets_fit, weight_is_at_most_value};
 pub use plans::Plan;
