@@ -1,0 +1,8 @@
+//! The commands and words of a Tcl text, as SDC is written in.
+#![tactic(auto)]
+
+mod characters;
+mod words;
+
+pub use characters::{Character, Scope};
+pub use words::{Command, CommandList, TclFault, Word, WordKind};
