@@ -1,8 +1,4 @@
-<<<<<<< HEAD
-use Rattle.std.proofs.Common.{arith, ◌∙◌, sym}
-=======
 use Rattle.std.proofs.Common.{arith}
->>>>>>> f8919233cb34f330bdf54262953e1f64d2294ad0
 use Rattle.std.proofs.lemmas.Int.{ints}
 use Rattle.duals.specs.Duals.{gain_along}
 use Rattle.duals.proofs.Slackness.{lesser-first, lesser-second}
