@@ -1,3 +1,5 @@
 pub mod Characters
 pub mod Words
 pub mod Commands
+pub mod Scanning
+pub mod Answers
