@@ -6,3 +6,6 @@ pub mod WordLemmas
 pub mod StandLemmas
 pub mod ReadLemmas
 pub mod LineLemmas
+pub mod PartLemmas
+pub mod SplitLemmas
+pub mod ListLemmas

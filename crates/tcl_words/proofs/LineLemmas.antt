@@ -217,6 +217,17 @@ remain_more at source words _ _ (others other rest behind given) end next is =
     let P : Character → Type 0 = λ c. AreCommands (at + size (source ++ c ∷ [])) next behind in
     (behind, (refl, subst P first (subst (λ (xs : List Character). AreCommands (at + size (source ++ other ∷ [])) xs behind) tail given)))
 
+-- what stands behind the first line
+line_needed : (at : ℕ) (cs rest : List Character) (words : List Word) (line : IsLine at cs rest words) (end : Character) (next : List Character) → rest ≡ end ∷ next → (all : List (List Word)) → AreCommands at cs all →
+    (behind : List (List Word)) × ((all ≡ kept words ++ behind) × AreCommands (at + size (line.source ++ end ∷ [])) next behind)
+line_needed at cs rest words line end next is all given =
+    let first = first_line at cs all given in
+    let same = line_once at cs first.rest rest first.words words first.line line in
+    let sources : first.line.source ≡ line.source = append_cancel_right first.line.source line.source rest (ap (λ xs. first.line.source ++ xs) (sym same.0) ∙ sym first.line.split ∙ line.split) in
+    let more = remain_more at first.line.source first.words first.rest all first.remain end next (same.0 ∙ is) in
+    let P : List Character → Type 0 = λ xs. AreCommands (at + size (xs ++ end ∷ [])) next more.0 in
+    (more.0, (more.1.0 ∙ ap (λ ws. kept ws ++ more.0) same.1, subst P sources more.1.1))
+
 pub line_turn : (text : List ℕ) (at end place : ℕ) (words : List Word) (c : Character) → IsLine at (left text at) (left text end) words → left text end ≡ c ∷ left text place → at ≤ length text → place ≤ length text →
     IsLineTurn at place (left text at) (left text place) words
 line_turn text at end place words c line behind from within =
@@ -225,13 +236,35 @@ line_turn text at end place words c line behind from within =
     record {
       enough = λ others given. up_to_more at (left text at) line.source (left text end) words c (left text place) others line.split behind line.up_to (subst (λ (n : ℕ). AreCommands n (left text place) others) place_is given);
       needed = λ all given.
-          let first = first_line at (left text at) all given in
-          let same = line_once at (left text at) first.rest (left text end) first.words words first.line line in
-          let sources : first.line.source ≡ line.source = append_cancel_right first.line.source line.source (left text end) (ap (λ xs. first.line.source ++ xs) (sym same.0) ∙ sym first.line.split ∙ line.split) in
-          let more = remain_more at first.line.source first.words first.rest all first.remain c (left text place) (same.0 ∙ behind) in
-          let P : List Character → Type 0 = λ xs. AreCommands (at + size (xs ++ c ∷ [])) (left text place) more.0 in
-          (more.0, (more.1.0 ∙ ap (λ ws. kept ws ++ more.0) same.1, subst (λ (n : ℕ). AreCommands n (left text place) more.0) (sym place_is) (subst P sources more.1.1)));
+          let more = line_needed at (left text at) (left text end) words line c (left text place) behind all given in
+          (more.0, (more.1.0, subst (λ (n : ℕ). AreCommands n (left text place) more.0) (sym place_is) more.1.1));
     }
+
+remain_none : (at : ℕ) (source : List Character) (words : List Word) (rest : List Character) (all : List (List Word)) → Remain at source words rest all → rest ≡ [] → all ≡ kept words
+remain_none at source words _ _ no_others is = refl
+remain_none at source words _ _ (others end next behind given) is = absurd (cc)
+
+-- a last line leaves no other commands
+last_once : (at : ℕ) (cs : List Character) (words : List Word) → IsLine at cs [] words → (all : List (List Word)) → AreCommands at cs all → kept words ≡ all
+last_once at cs words line all given =
+    let first = first_line at cs all given in
+    let same = line_once at cs first.rest [] first.words words first.line line in
+    sym (remain_none at first.line.source first.words first.rest all first.remain same.0 ∙ ap kept same.1)
+
+-- a text is one list of commands
+pub commands_once : (at : ℕ) (cs : List Character) (first second : List (List Word)) → AreCommands at cs first → AreCommands at cs second → first ≡ second
+commands_once _ _ _ second (AreCommands.command at cs words is) other =
+    last_once at cs words (record { source = cs; split = sym (append-nil cs); up_to = command at cs [] words is refl }) second other
+commands_once _ _ _ second (AreCommands.comment at cs is) other =
+    last_once at cs [] (record { source = cs; split = sym (append-nil cs); up_to = comment at cs [] is refl }) second other
+commands_once _ _ _ second (AreCommands.behind_command at cs rest end words commands is ends given) other =
+    let line : IsLine at (cs ++ end ∷ rest) (end ∷ rest) words = record { source = cs; split = refl; up_to = command at cs (end ∷ rest) words is ends } in
+    let more = line_needed at (cs ++ end ∷ rest) (end ∷ rest) words line end rest refl second other in
+    ap (λ ws. kept words ++ ws) (commands_once (at + size (cs ++ end ∷ [])) rest commands more.0 given more.1.1) ∙ sym more.1.0
+commands_once _ _ _ second (AreCommands.behind_comment at cs rest end commands is ends given) other =
+    let line : IsLine at (cs ++ end ∷ rest) (end ∷ rest) [] = record { source = cs; split = refl; up_to = comment at cs (end ∷ rest) is ends } in
+    let more = line_needed at (cs ++ end ∷ rest) (end ∷ rest) [] line end rest refl second other in
+    commands_once (at + size (cs ++ end ∷ [])) rest commands more.0 given more.1.1 ∙ sym more.1.0
 
 pub commands_refused : (text : List ℕ) (at : ℕ) (fault : TclFault) → (((rest : List Character) (words : List Word) → IsLine at (left text at) rest words → ⊥) → (all : List (List Word)) → Splits text all → ⊥) →
     IsLineAnswer text at (Err fault) → IsSplitAnswer text (Err fault)

@@ -1,7 +1,7 @@
 -- What the functions answer that read words from an offset of a text.
 use Rattle.std.specs.Prelude.{ℕ, ◌+◌, ◌-◌, ◌≤◌, List, length, map, drop, take, Result, Ok, Err, if◌then◌else◌}
 use Rattle.tcl_words.specs.Characters.{characters, meaning, is_byte}
-use Rattle.tcl_words.specs.Commands.{IsCommandsAnswer, IsFaultWithin}
+use Rattle.tcl_words.specs.Commands.{IsCommandsAnswer, IsBracketAnswer, IsFaultWithin}
 use Rattle.tcl_words.specs.Scanning.{left, Stands, StandAll, IsLine}
 use Rattle.tcl_words.specs.declared.characters.Character.{Character}
 use Rattle.tcl_words.specs.declared.characters.Scope.{Scope}
@@ -55,3 +55,8 @@ IsLineAnswer text at (Err NoMemory) = Unit {0}
 pub record IsSplitAnswer (text : List ℕ) (result : Result (List (List Word)) TclFault) : Type 0 where
   pub answer : IsCommandsAnswer text result
   pub within : IsFaultWithin (length text) result
+
+-- what each answer of `split_brackets` says
+pub record IsBracketsAnswer (at : ℕ) (text : List ℕ) (result : Result (List Word) TclFault) : Type 0 where
+  pub answer : IsBracketAnswer at text result
+  pub within : IsFaultWithin (at + length text) result

@@ -88,13 +88,13 @@ pub record IsWordOf (stop : ℕ) (word : Word) : Type 0 where
   pub within : word.at + length word.text ≤ stop
   pub brackets : word.kind ≡ Bracket → (words : List Word) × AreBracketWords (word.at + 1) word.text words
 
--- some words of a text
-pub record IsCommandOf (stop : ℕ) (words : List Word) : Type 0 where
-  pub some : 0 < length words
+-- words of a text
+pub record AreWordsOf (stop : ℕ) (words : List Word) : Type 0 where
   pub count : length words ≤ stop
   pub each : AllByRecursion (IsWordOf stop) words
 
--- some commands of a text
+-- commands of a text, each with a word
 pub record AreCommandsOf (stop : ℕ) (commands : List (List Word)) : Type 0 where
   pub count : length commands ≤ stop
-  pub each : AllByRecursion (IsCommandOf stop) commands
+  pub named : AllByRecursion (λ words. 0 < length words) commands
+  pub each : AllByRecursion (AreWordsOf stop) commands

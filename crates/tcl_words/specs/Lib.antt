@@ -3,3 +3,4 @@ pub mod Words
 pub mod Commands
 pub mod Scanning
 pub mod Answers
+pub mod Lists

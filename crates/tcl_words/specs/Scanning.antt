@@ -126,3 +126,8 @@ pub record IsLine (at : ℕ) (cs rest : List Character) (words : List Word) : Ty
   pub source : List Character
   pub split : cs ≡ source ++ rest
   pub up_to : IsUpTo at source rest words
+
+-- from the first white space on
+unfoldable pub from_gap : List Character → List Character
+from_gap [] = []
+from_gap (c ∷ cs) = if is_gap Brackets c then c ∷ cs else from_gap cs

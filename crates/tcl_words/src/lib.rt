@@ -4,9 +4,12 @@
 mod brackets;
 mod characters;
 mod ends;
+mod lists;
 mod readers;
 mod splitting;
 mod words;
 
 pub use characters::{Character, Scope};
+pub use lists::next_element;
+pub use splitting::{bracket_words, commands, one_splitting};
 pub use words::{Command, CommandList, TclFault, Word, WordKind};
