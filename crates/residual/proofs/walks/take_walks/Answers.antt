@@ -13,7 +13,7 @@ loop-start-preserved c =
         subst T (sym w.flows-is) (AreWalksTaken-more c.args.arcs.now c.args.first c.args.flows.now c.loop-start.flows w.take_walk.new.flows c.loop-start.invariant.0 w.take_walk.ensures.taken),
         rw (w.flows-is, w.is_taken-is)
             (IsTakenAnswer-take c.args.arcs.now c.args.first c.args.ways.now c.args.from c.loop-start.start c.args.flows.now c.loop-start.flows w.take_walk.new.flows c.loop-start.is_taken
-            c.requires.flow c.loop-start.auto.start c.loop-start.invariant.0 c.loop-start.invariant.1 w.take_walk.ensures),
+            c.requires.flow c.loop-start.auto.start c.loop-start.invariant.0 c.loop-start.invariant.1 (w.if-is_open_start.ensures.yes refl) w.take_walk.ensures),
       )
       | else-is_open_start w ↦ (
         subst T (sym w.flows-is) c.loop-start.invariant.0,
