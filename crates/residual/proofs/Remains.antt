@@ -1,5 +1,5 @@
 -- Surpluses that marks show, and those that they exclude.
-use Rattle.std.proofs.Common.{◌≡◌, ℕ, zero, suc, pos, ◌+◌, ◌-◌, ◌<◌, ◌≤◌, ◌<ℤ◌, List, [], ◌∷◌, Option, Some, None, arith, ap, sym, subst, ◌∙◌, inl, inr}
+use Rattle.std.proofs.Common.{◌≡◌, ℕ, zero, suc, pos, ◌+◌, ◌-◌, ◌<◌, ◌≤◌, ◌<ℤ◌, List, [], ◌∷◌, Option, Some, arith, ap, sym, subst, ◌∙◌, inl, inr}
 use Rattle.std.proofs.lemmas.Bool.{cases_lt}
 use Rattle.bud_base.specs.declared.ids.ItemId.{ItemId}
 use Rattle.bud_flow.specs.Sums.{number_at}
@@ -7,11 +7,9 @@ use Rattle.residual.specs.Arcs.{arc_at}
 use Rattle.residual.specs.Networks.{Network, HasSizes, end_flow_at}
 use Rattle.residual.specs.Trims.{FlowsAlong, HasNoSurplus}
 use Rattle.residual.specs.Walks.{way_at, IsMarked, rank_of, rank_at, AreWays, HaveFlow, AreParted, HasWalk}
+use Rattle.residual.proofs.Walking.{none-some}
 use Rattle.residual.proofs.Surplus.{start-from_root}
 use Rattle.residual.specs.declared.walks.Way.{Way}
-
-none-some : {A : Type 0} (o : Option A) (x : A) → o ≡ None → o ≡ Some x → ⊥
-none-some o x none some = cc
 
 -- ---- where the marks part the network
 -- items with flow lead to marked nodes from marked nodes

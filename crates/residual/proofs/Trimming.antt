@@ -1,11 +1,13 @@
 -- A network from which walks were taken off.
-use Rattle.std.proofs.Common.{◌≡◌, ℕ, ℤ, ◌+◌, ◌≤ℤ◌, ◌⊎◌, List, Option, sym, subst, ap, ◌∙◌, inl, inr}
+use Rattle.std.proofs.Common.{◌≡◌, ℕ, ℤ, ◌+◌, ◌≤ℤ◌, ◌⊎◌, arith, List, Option, sym, subst, ap, ◌∙◌, inl, inr}
+use Rattle.std.proofs.lemmas.Int.{ints}
+use Rattle.bud_base.specs.declared.problems.Problem.{Problem}
 use Rattle.residual.specs.Excesses.{AreExcesses}
-use Rattle.residual.specs.Networks.{Network, IsLawful}
-use Rattle.residual.specs.Balances.{HasNoExcess, HasRoom, total_start_flow}
+use Rattle.residual.specs.Networks.{Fits, Network, IsLawful}
+use Rattle.residual.specs.Balances.{HasNoExcess, HasRoom, total_start_flow, total_weight}
 use Rattle.residual.specs.Trims.{HasNoSurplus, total_limit}
 use Rattle.residual.specs.Walks.{AreWalksTaken, AreParted, HasWalk}
-use Rattle.residual.proofs.Surplus.{total_start_flow-most, IsLawful-less}
+use Rattle.residual.proofs.Surplus.{total_limit-fits, total_start_flow-most, IsLawful-less}
 use Rattle.residual.proofs.Remains.{HasNoSurplus-parted, HasSurplus-walk}
 use Rattle.residual.specs.declared.arcs.Arc.{Arc}
 use Rattle.residual.specs.declared.walks.Way.{Way}
@@ -44,3 +46,10 @@ kept-lent before net arcs flows told new same lawful is_arcs is_flows is_new whi
   | inl kept ↦ is_new ∙ kept ∙ is_flows ∙ ap (λ (n : Network). n.flows) same
   | inr walk ↦ absurd (HasSurplus-walk before lawful.sizes (rw (← is_arcs, ← is_flows) walk) (subst HasNoSurplus (sym same) none))
 ]
+
+-- and in the network of a problem the starts carry no more than the weights together
+pub weights-lent : (before net : Network) (new : List ℤ) (p : Problem) → before ≡ net → IsTrimmed before new → Fits net p → total_start_flow (record before { flows = new }) ≤ℤ total_weight p
+weights-lent before net new p same trimmed fits =
+    let P : Network → Type 0 = λ n. Fits n p in
+    let limits : total_limit before ≡ total_weight p = total_limit-fits before p (subst P (sym same) fits) in
+    omega (arith, ints, trimmed.starts, limits)

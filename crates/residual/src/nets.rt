@@ -48,7 +48,7 @@ impl Net {
     ghost use Rattle.bud_flow.specs.Arrivals.{Suit};
     ghost use Rattle.residual.specs.Arcs.{reduced_cost};
     ghost use Rattle.residual.specs.Bounds.{IsSmall, IsWithin};
-    ghost use Rattle.residual.specs.Balances.{HasNoExcess, HasRoom, total_start_flow};
+    ghost use Rattle.residual.specs.Balances.{HasNoExcess, HasRoom, total_start_flow, total_weight};
     ghost use Rattle.residual.specs.Excesses.{flows_after};
     ghost use Rattle.residual.specs.Networks.{IsKey, residual, IsLawful, AreReduced, excess_at, item_flow_at, start_flow_at, end_flow_at, Fits, IsFresh};
     ghost use Rattle.residual.specs.Trims.{AreLess, KeepsLimited, HasNoSurplus, total_limit};
@@ -212,6 +212,7 @@ impl Net {
         ensures none { HasNoSurplus self.new }
         ensures kept { HasNoSurplus self.old → self.new.flows ≡ self.old.flows }
         ensures starts { total_start_flow self.new ≤ℤ total_limit self.new }
+        ensures weights { (p : Problem) → Fits self.old p → total_start_flow self.new ≤ℤ total_weight p }
         ensures lawful { IsLawful self.new }
     {
         let first = self.items + self.items;

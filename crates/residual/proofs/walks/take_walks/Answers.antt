@@ -1,5 +1,5 @@
-use Rattle.std.proofs.Common.{◌+◌, List, ℤ, Bool, refl, subst, sym}
-use Rattle.residual.specs.Walks.{AreWalksTaken, IsTakenAnswer}
+use Rattle.std.proofs.Common.{List, ℤ, refl, subst, sym}
+use Rattle.residual.specs.Walks.{AreWalksTaken}
 use Rattle.residual.proofs.Walking.{AreWalksTaken-more, IsTakenAnswer-skip, IsTakenAnswer-take}
 use Rattle.residual.proofs.walks.take_walks.Goals.{then-is_open_start, else-is_open_start}
 use Rattle.residual.proofs.walks.take_walks.Goals as goal
@@ -7,7 +7,6 @@ use Rattle.residual.proofs.walks.take_walks.Goals as goal
 pub loop-start-preserved : goal.loop-start-preserved
 loop-start-preserved c =
     let T : List ℤ → Type 0 = λ fs. AreWalksTaken c.args.arcs.now c.args.first c.args.flows.now fs in
-    let A : List ℤ → Bool → Type 0 = λ fs b. IsTakenAnswer c.args.arcs.now c.args.ways.now c.args.from (c.loop-start.start + 1) c.args.flows.now fs b in
     elim c.if-is_open_start.branch [
       | then-is_open_start w ↦ (
         subst T (sym w.flows-is) (AreWalksTaken-more c.args.arcs.now c.args.first c.args.flows.now c.loop-start.flows w.take_walk.new.flows c.loop-start.invariant.0 w.take_walk.ensures.taken),
