@@ -13,4 +13,6 @@ pub mod Pushing
 pub mod Walking
 pub mod Marking
 pub mod Surplus
+pub mod Remains
+pub mod Trimming
 pub mod Rows

@@ -5,14 +5,9 @@ use Rattle.std.proofs.lemmas.List.{get_or_past}
 use Rattle.bud_flow.specs.Sums.{number_at}
 use Rattle.residual.specs.Arcs.{arc_at}
 use Rattle.residual.specs.Walks.{way_at, IsMarked, rank_of, rank_at, IsWay, AreWays, HaveFlow, LeadsOn, unmarked_count, IsSpreading}
+use Rattle.residual.proofs.Walking.{none-some, some_inj}
 use Rattle.residual.specs.declared.arcs.Arc.{Arc}
 use Rattle.residual.specs.declared.walks.Way.{Way}
-
-none-some : {A : Type 0} (o : Option A) (x : A) → o ≡ None → o ≡ Some x → ⊥
-none-some o x none some = cc
-
-some_inj : {A : Type 0} (x y : A) → Some x ≡ Some y → x ≡ y
-some_inj x y e = cc
 
 -- the root and marked nodes keep their ways where another node is marked
 kept_way : (ways : List (Option Way)) (root v u : ℕ) (new : Option Way) → way_at ways v ≡ None → v ≢ root → (u ≡ root) ⊎ IsMarked ways u → way_at (set ways v new) u ≡ way_at ways u

@@ -1,5 +1,5 @@
 -- The flows of all starts against what the first arcs of all items can carry, and the law of a network from which flows were taken.
-use Rattle.std.proofs.Common.{◌≡◌, ◌==◌, ◌≢◌, ℕ, zero, suc, ℤ, pos, ◌+ℤ◌, ◌*ℤ◌, ◌≤ℤ◌, ◌<ℤ◌, ◌+◌, ◌/◌, ◌<◌, ◌≤◌, ◌⊎◌, ◌-◌, negsuc, List, length, Option, Some, None, arith, refl, ap, sym, subst, ◌∙◌, inl, inr, cond, eq-eqb}
+use Rattle.std.proofs.Common.{◌≡◌, ◌==◌, ◌≢◌, ℕ, zero, suc, ℤ, pos, ◌+ℤ◌, ◌*ℤ◌, ◌≤ℤ◌, ◌<ℤ◌, ◌+◌, ◌/◌, ◌<◌, ◌≤◌, ◌⊎◌, ◌-◌, negsuc, List, length, Option, Some, None, arith, refl, ap, sym, ◌∙◌, inl, inr, cond, eq-eqb}
 use Rattle.std.proofs.lemmas.Int.{ints}
 use Rattle.std.proofs.lemmas.Bool.{cases_eq, cases_lt, ne_eqb}
 use Rattle.std.proofs.Math.IntN.{*ℤ-zero, *ℤ_comm}
@@ -7,11 +7,11 @@ use Rattle.bud_base.specs.declared.problems.Problem.{Problem}
 use Rattle.bud_flow.specs.Sums.{sum_below, sum_at, number_at}
 use Rattle.bud_flow.proofs.SumLemmas.{sum_below-more, sum_below-same, sum_below-le, sum_below-add, sum_at-exchange}
 use Rattle.residual.specs.Arcs.{arc_at, full, CarryAll}
-use Rattle.residual.specs.Excesses.{excess_of, AreExcesses}
+use Rattle.residual.specs.Excesses.{excess_of}
 use Rattle.residual.specs.Networks.{Network, HasSizes, IsLawful, Fits}
 use Rattle.residual.specs.Balances.{HasNoExcess, HasRoom, total_weight, total_start_flow}
 use Rattle.residual.specs.Trims.{AreLess, KeepsLimited, total_limit}
-use Rattle.residual.specs.Walks.{way_at, IsMarked, AreWalksTaken, AreParted}
+use Rattle.residual.specs.Walks.{way_at, IsMarked, AreParted}
 use Rattle.residual.proofs.Blocks.{by_block}
 use Rattle.residual.proofs.Pairs.{HoldsPair, HoldsPair-from_reduced, HoldsReduced-from_pair}
 use Rattle.residual.proofs.Walking.{CarryAll-less}
@@ -211,32 +211,6 @@ IsLawful-less net new lawful room less kept = record {
   kept_root = lawful.kept_root;
   closed = lawful.closed;
 }
-
--- a network from which walks were taken off until none was left
-pub record IsTrimmed (net : Network) (new : List ℤ) : Type 0 where
-  pub taken : AreWalksTaken net.arcs net.items net.flows new
-  pub lawful : IsLawful (record net { flows = new })
-  pub balanced : HasNoExcess (record net { flows = new })
-  pub starts : total_start_flow (record net { flows = new }) ≤ℤ total_limit net
-
-IsTrimmed-walks : (net : Network) (new : List ℤ) (ways : List (Option Way)) → IsLawful net → HasNoExcess net → HasRoom net → AreWalksTaken net.arcs net.items net.flows new
-    → AreParted net.arcs new net.items net.nodes (net.items + net.items) (net.items + net.items + net.starts) ways → IsTrimmed net new
-IsTrimmed-walks net new ways lawful balanced room taken parted =
-    let law : IsLawful (record net { flows = new }) = IsLawful-less net new lawful room taken.less taken.kept in
-    let still : HasNoExcess (record net { flows = new }) = λ v below. taken.excess v ∙ balanced v below in
-    record { taken = taken; lawful = law; balanced = still; starts = total_start_flow-most (record net { flows = new }) ways law.sizes law.flows still parted }
-
--- the same of the lists as they were lent
-pub IsTrimmed-lent : (before net : Network) (arcs : List Arc) (flows told new : List ℤ) (ways : List (Option Way)) → before ≡ net → IsLawful before → HasNoExcess net → HasRoom net
-    → arcs ≡ before.arcs → flows ≡ before.flows → new ≡ told → AreWalksTaken arcs before.items flows told
-    → AreParted arcs told before.items before.nodes (before.items + before.items) (before.items + before.items + before.starts) ways → IsTrimmed before new
-IsTrimmed-lent before net arcs flows told new ways same lawful balanced room is_arcs is_flows is_new taken parted =
-    IsTrimmed-walks before new ways lawful (subst HasNoExcess (sym same) balanced) (subst HasRoom (sym same) room)
-    (rw (is_new, ← is_arcs, ← is_flows) taken) (rw (is_new, ← is_arcs) parted)
-
--- the excesses are as before
-pub AreExcesses-walks : (arcs : List Arc) (first : ℕ) (old new numbers : List ℤ) → AreExcesses arcs old numbers → AreWalksTaken arcs first old new → AreExcesses arcs new numbers
-AreExcesses-walks arcs first old new numbers told taken = record { each = λ v below. told.each v below ∙ sym (taken.excess v) }
 
 -- the arcs of starts come from the root
 pub start-from_root : (net : Network) (j : ℕ) → HasSizes net → net.items + net.items ≤ j → j < net.items + net.items + net.starts → (arc_at net.arcs j).from.0 ≡ net.nodes

@@ -10,15 +10,15 @@ use Rattle.bud_flow.specs.Sums.{number_at, sum_below}
 use Rattle.bud_flow.proofs.SumLemmas.{sum_below-le}
 use Rattle.residual.specs.Arcs.{arc_at, CarryAll}
 use Rattle.residual.specs.Trims.{AreLess}
-use Rattle.residual.specs.Walks.{way_at, IsMarked, rank_of, rank_at, AreWays, HaveFlow, OnWalk, stay, walk, CarryOnWalk, AreTakenOff, AreWalksTaken, IsWalkTaken, IsLower, IsTakenAnswer}
+use Rattle.residual.specs.Walks.{way_at, IsMarked, rank_of, rank_at, AreWays, HaveFlow, OnWalk, stay, walk, CarryOnWalk, AreTakenOff, AreWalksTaken, IsWalkTaken, IsOpenStart, IsLower, IsTakenAnswer, HasWalk}
 use Rattle.residual.proofs.Changes.{excess_of-set}
 use Rattle.residual.specs.declared.arcs.Arc.{Arc}
 use Rattle.residual.specs.declared.walks.Way.{Way}
 
-none-some : {A : Type 0} (o : Option A) (x : A) → o ≡ None → o ≡ Some x → ⊥
+pub none-some : {A : Type 0} (o : Option A) (x : A) → o ≡ None → o ≡ Some x → ⊥
 none-some o x none some = cc
 
-some_inj : {A : Type 0} (x y : A) → Some x ≡ Some y → x ≡ y
+pub some_inj : {A : Type 0} (x y : A) → Some x ≡ Some y → x ≡ y
 some_inj x y e = cc
 
 -- a node on the walk is its beginning, or lies on the walk from the node after
@@ -269,7 +269,7 @@ IsTakenAnswer-none arcs ways from flows = (refl, λ j above below some. absurd (
 
 pub IsTakenAnswer-skip : (arcs : List Arc) (ways : List (Option Way)) (from start : ℕ) (old new : List ℤ) (b : Bool) → IsTakenAnswer arcs ways from start old new b
     → (pos 0 <ℤ number_at new start → way_at ways (arc_at arcs start).to.0 ≡ None) → IsTakenAnswer arcs ways from (start + 1) old new b
-IsTakenAnswer-skip arcs ways from start old new true answer none = record { start = answer.start; above = answer.above; below = omega (arith, answer.below); lower = answer.lower }
+IsTakenAnswer-skip arcs ways from start old new true answer none = record { start = answer.start; above = answer.above; below = omega (arith, answer.below); was_open = answer.was_open; lower = answer.lower }
 IsTakenAnswer-skip arcs ways from start old new false answer none = (
   answer.0,
   λ j above below some. elim (cases_lt j start) [
@@ -282,13 +282,14 @@ IsTakenAnswer-skip arcs ways from start old new false answer none = (
 )
 
 pub IsTakenAnswer-take : (arcs : List Arc) (first : ℕ) (ways : List (Option Way)) (from start : ℕ) (old mid new : List ℤ) (b : Bool) → HaveFlow old ways → from ≤ start → AreWalksTaken arcs first old mid
-    → IsTakenAnswer arcs ways from start old mid b → IsWalkTaken arcs first start ways mid new → IsTakenAnswer arcs ways from (start + 1) old new true
-IsTakenAnswer-take arcs first ways from start old mid new true have above so_far answer walked =
-    record { start = answer.start; above = answer.above; below = omega (arith, answer.below); lower = omega (arith, ints, answer.lower, walked.taken.less.less answer.start) }
-IsTakenAnswer-take arcs first ways from start old mid new false have above so_far answer walked =
+    → IsTakenAnswer arcs ways from start old mid b → IsOpenStart arcs mid ways start → IsWalkTaken arcs first start ways mid new → IsTakenAnswer arcs ways from (start + 1) old new true
+IsTakenAnswer-take arcs first ways from start old mid new true have above so_far answer is_open walked =
+    record { start = answer.start; above = answer.above; below = omega (arith, answer.below); was_open = answer.was_open; lower = omega (arith, ints, answer.lower, walked.taken.less.less answer.start) }
+IsTakenAnswer-take arcs first ways from start old mid new false have above so_far answer is_open walked =
     let P : List ℤ → Type 0 = λ fs. HaveFlow fs ways in
+    let Q : List ℤ → Type 0 = λ fs. IsOpenStart arcs fs ways start in
     let lower = walked.lower (subst P (sym answer.0) have) in
-    record { start = start; above = above; below = omega arith; lower = omega (arith, ints, lower, so_far.less.less start) }
+    record { start = start; above = above; below = omega arith; was_open = subst Q answer.0 is_open; lower = omega (arith, ints, lower, so_far.less.less start) }
 
 -- ---- the flows of starts together fall
 pub sum_below-least : (n : ℕ) (f : ℕ → ℤ) → ((j : ℕ) → j < n → pos 0 ≤ℤ f j) → pos 0 ≤ℤ sum_below n f
@@ -318,10 +319,21 @@ size_of-lower (negsuc a) b least lower = absurd (omega (arith, ints, least))
 abbrev pub starts_flow : ℕ → ℕ → List ℤ → ℤ
 starts_flow from to flows = sum_below (to - from) (λ k. number_at flows (from + k))
 
-pub IsLower-smaller : (arcs : List Arc) (from to : ℕ) (old new : List ℤ) → CarryAll arcs new → to ≤ length arcs → from ≤ to → AreLess old new → IsLower from to old new
+pub IsLower-smaller : (arcs : List Arc) (ways : List (Option Way)) (from to : ℕ) (old new : List ℤ) → CarryAll arcs new → to ≤ length arcs → from ≤ to → AreLess old new → IsLower arcs ways from to old new
     → size_of (starts_flow from to new) < size_of (starts_flow from to old)
-IsLower-smaller arcs from to old new carried inside order less lower =
+IsLower-smaller arcs ways from to old new carried inside order less lower =
     let e : from + (lower.start - from) ≡ lower.start = omega (arith, lower.above) in
     let P : ℕ → Type 0 = λ k. number_at new k <ℤ number_at old k in
     size_of-lower _ _ (sum_below-least (to - from) _ (λ k below. (carried (from + k) (omega (arith, below, inside, order))).least))
     (sum_below-lower (to - from) (lower.start - from) (λ k. number_at old (from + k)) (λ k. number_at new (from + k)) (λ k below. less.less (from + k)) (omega (arith, lower.above, lower.below)) (subst P (sym e) lower.lower))
+
+-- flows are as they were, or there was a walk
+pub kept-more : (arcs : List Arc) (first root from to count : ℕ) (ways : List (Option Way)) (old mid new : List ℤ) → (mid ≡ old) ⊎ HasWalk arcs old first root from to → AreWays arcs first root ways count
+    → HaveFlow mid ways → IsLower arcs ways from to mid new → (new ≡ old) ⊎ HasWalk arcs old first root from to
+kept-more arcs first root from to count ways old mid new so_far marks have lower = elim so_far [
+  | inr before ↦ inr before
+  | inl same ↦
+      let P : List ℤ → Type 0 = λ fs. HaveFlow fs ways in
+      let Q : List ℤ → Type 0 = λ fs. IsOpenStart arcs fs ways lower.start in
+      inr (record { ways = ways; count = count; marks = marks; flow = subst P same have; start = lower.start; above = lower.above; below = lower.below; open_start = subst Q same lower.was_open })
+]

@@ -95,17 +95,29 @@ pub record IsOpenStart (arcs : List Arc) (flows : List ℤ) (ways : List (Option
 abbrev pub NoneOpen : List Arc → List ℤ → List (Option Way) → ℕ → ℕ → Type 0
 NoneOpen arcs flows ways from to = (j : ℕ) → from ≤ j → j < to → pos 0 <ℤ number_at flows j → way_at ways (arc_at arcs j).to.0 ≡ None
 
--- the flow of one of these arcs has fallen
-pub record IsLower (from to : ℕ) (old new : List ℤ) : Type 0 where
+-- the arc of an open start, whose flow has fallen
+pub record IsLower (arcs : List Arc) (ways : List (Option Way)) (from to : ℕ) (old new : List ℤ) : Type 0 where
   pub start : ℕ
   pub above : from ≤ start
   pub below : start < to
+  pub was_open : IsOpenStart arcs old ways start
   pub lower : number_at new start <ℤ number_at old start
 
 -- whether walks of these starts were taken off, or there was none
 abbrev pub IsTakenAnswer : List Arc → List (Option Way) → ℕ → ℕ → List ℤ → List ℤ → Bool → Type 0
-IsTakenAnswer arcs ways from to old new true = IsLower from to old new
+IsTakenAnswer arcs ways from to old new true = IsLower arcs ways from to old new
 IsTakenAnswer arcs ways from to old new false = (new ≡ old) × NoneOpen arcs new ways from to
+
+-- the arc of an open start, and marks that lead on from it to the root over arcs with flow
+pub record HasWalk (arcs : List Arc) (flows : List ℤ) (first root from to : ℕ) : Type 0 where
+  pub ways : List (Option Way)
+  pub count : ℕ
+  pub marks : AreWays arcs first root ways count
+  pub flow : HaveFlow flows ways
+  pub start : ℕ
+  pub above : from ≤ start
+  pub below : start < to
+  pub open_start : IsOpenStart arcs flows ways start
 
 -- marks between two looks at the arcs: those from `next` on are covered, if nothing was marked since
 pub record IsSpreading (arcs : List Arc) (flows : List ℤ) (first root : ℕ) (ways : List (Option Way)) (before place next : ℕ) : Type 0 where

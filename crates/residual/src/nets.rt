@@ -48,10 +48,10 @@ impl Net {
     ghost use Rattle.bud_flow.specs.Arrivals.{Suit};
     ghost use Rattle.residual.specs.Arcs.{reduced_cost};
     ghost use Rattle.residual.specs.Bounds.{IsSmall, IsWithin};
-    ghost use Rattle.residual.specs.Balances.{HasNoExcess, HasRoom, total_start_flow};
+    ghost use Rattle.residual.specs.Balances.{HasNoExcess, HasRoom, total_start_flow, total_weight};
     ghost use Rattle.residual.specs.Excesses.{flows_after};
     ghost use Rattle.residual.specs.Networks.{IsKey, residual, IsLawful, AreReduced, excess_at, item_flow_at, start_flow_at, end_flow_at, Fits, IsFresh};
-    ghost use Rattle.residual.specs.Trims.{AreLess, KeepsLimited, total_limit};
+    ghost use Rattle.residual.specs.Trims.{AreLess, KeepsLimited, HasNoSurplus, total_limit};
 
     /// The network of a problem, with the least arrivals as its potentials.
     pub fn new(alloc: Global, problem: &Problem) -> Result<Net, AllocError>
@@ -197,11 +197,11 @@ impl Net {
         move_excess(&mut self.excess, &self.arcs, pair, amount);
     }
 
-    /// Takes off the surpluses: as long as there is a walk over arcs with flow, from the root over a start, arcs without limit of items and
-    /// an end back to the root, the least of its flows is taken off all of its arcs.
+    /// Takes off the surpluses: as long as there is a path with flow on the arcs of its start and of its end and on the arcs without limit
+    /// of its items, the least of these flows is taken off them all.
     ///
-    /// It changes nothing but flows, takes no memory and is no step. Where the network fits a problem, the starts are left with no more
-    /// than the sum of the weights.
+    /// It changes nothing but flows, takes no memory and is no step. Where the network fits a problem, the flows of the starts together
+    /// are then at most the sum of the weights.
     pub fn trim(&mut self)
         requires balanced { HasNoExcess self.old }
         requires room { HasRoom self.old }
@@ -209,7 +209,10 @@ impl Net {
         ensures less { AreLess self.old.flows self.new.flows }
         ensures limited { KeepsLimited self.old self.new.flows }
         ensures balanced { HasNoExcess self.new }
+        ensures none { HasNoSurplus self.new }
+        ensures kept { HasNoSurplus self.old → self.new.flows ≡ self.old.flows }
         ensures starts { total_start_flow self.new ≤ℤ total_limit self.new }
+        ensures weights { (p : Problem) → Fits self.old p → total_start_flow self.new ≤ℤ total_weight p }
         ensures lawful { IsLawful self.new }
     {
         let first = self.items + self.items;

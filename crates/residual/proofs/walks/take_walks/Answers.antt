@@ -1,5 +1,5 @@
-use Rattle.std.proofs.Common.{◌+◌, List, ℤ, Bool, refl, subst, sym}
-use Rattle.residual.specs.Walks.{AreWalksTaken, IsTakenAnswer}
+use Rattle.std.proofs.Common.{List, ℤ, refl, subst, sym}
+use Rattle.residual.specs.Walks.{AreWalksTaken}
 use Rattle.residual.proofs.Walking.{AreWalksTaken-more, IsTakenAnswer-skip, IsTakenAnswer-take}
 use Rattle.residual.proofs.walks.take_walks.Goals.{then-is_open_start, else-is_open_start}
 use Rattle.residual.proofs.walks.take_walks.Goals as goal
@@ -7,13 +7,12 @@ use Rattle.residual.proofs.walks.take_walks.Goals as goal
 pub loop-start-preserved : goal.loop-start-preserved
 loop-start-preserved c =
     let T : List ℤ → Type 0 = λ fs. AreWalksTaken c.args.arcs.now c.args.first c.args.flows.now fs in
-    let A : List ℤ → Bool → Type 0 = λ fs b. IsTakenAnswer c.args.arcs.now c.args.ways.now c.args.from (c.loop-start.start + 1) c.args.flows.now fs b in
     elim c.if-is_open_start.branch [
       | then-is_open_start w ↦ (
         subst T (sym w.flows-is) (AreWalksTaken-more c.args.arcs.now c.args.first c.args.flows.now c.loop-start.flows w.take_walk.new.flows c.loop-start.invariant.0 w.take_walk.ensures.taken),
         rw (w.flows-is, w.is_taken-is)
             (IsTakenAnswer-take c.args.arcs.now c.args.first c.args.ways.now c.args.from c.loop-start.start c.args.flows.now c.loop-start.flows w.take_walk.new.flows c.loop-start.is_taken
-            c.requires.flow c.loop-start.auto.start c.loop-start.invariant.0 c.loop-start.invariant.1 w.take_walk.ensures),
+            c.requires.flow c.loop-start.auto.start c.loop-start.invariant.0 c.loop-start.invariant.1 (w.if-is_open_start.ensures.yes refl) w.take_walk.ensures),
       )
       | else-is_open_start w ↦ (
         subst T (sym w.flows-is) c.loop-start.invariant.0,

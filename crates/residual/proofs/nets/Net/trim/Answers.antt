@@ -4,7 +4,8 @@ use Rattle.std.proofs.lemmas.List.{with_items_is}
 use Rattle.residual.specs.Arcs.{arc_at}
 use Rattle.residual.specs.Networks.{Network}
 use Rattle.residual.specs.Insides.{network_of}
-use Rattle.residual.proofs.Surplus.{IsTrimmed, IsTrimmed-lent, AreExcesses-walks, start-from_root}
+use Rattle.residual.proofs.Surplus.{start-from_root}
+use Rattle.residual.proofs.Trimming.{IsTrimmed, IsTrimmed-lent, AreExcesses-walks, kept-lent, weights-lent}
 use Rattle.residual.specs.declared.arcs.Arc.{Arc}
 use Rattle.residual.proofs.nets.Net.trim.Goals as goal
 
@@ -25,6 +26,24 @@ returns-clause-starts c =
     (IsTrimmed-lent (network_of c.self.inside) c.args.self.now c.deref.result.now c.deref_mut.result.now c.trim_flows.new.flows (with_items c.self.inside.flows c.trim_flows.new.flows).items c.trim_flows.new.ways
     c.self.view_is c.self.invariant.lawful c.requires.balanced c.requires.room c.deref.ensures.value c.deref_mut.ensures.value
     (with_items_is c.self.inside.flows c.trim_flows.new.flows (c.trim_flows.auto.flows ∙ c.deref_mut.ensures.len)) c.trim_flows.ensures.taken c.trim_flows.ensures.parted).starts
+
+pub returns-clause-weights : goal.returns-clause-weights
+returns-clause-weights c p fits =
+    weights-lent (network_of c.self.inside) c.args.self.now _ p c.self.view_is
+    (IsTrimmed-lent (network_of c.self.inside) c.args.self.now c.deref.result.now c.deref_mut.result.now c.trim_flows.new.flows (with_items c.self.inside.flows c.trim_flows.new.flows).items c.trim_flows.new.ways
+    c.self.view_is c.self.invariant.lawful c.requires.balanced c.requires.room c.deref.ensures.value c.deref_mut.ensures.value
+    (with_items_is c.self.inside.flows c.trim_flows.new.flows (c.trim_flows.auto.flows ∙ c.deref_mut.ensures.len)) c.trim_flows.ensures.taken c.trim_flows.ensures.parted) fits
+
+pub returns-clause-none : goal.returns-clause-none
+returns-clause-none c =
+    (IsTrimmed-lent (network_of c.self.inside) c.args.self.now c.deref.result.now c.deref_mut.result.now c.trim_flows.new.flows (with_items c.self.inside.flows c.trim_flows.new.flows).items c.trim_flows.new.ways
+    c.self.view_is c.self.invariant.lawful c.requires.balanced c.requires.room c.deref.ensures.value c.deref_mut.ensures.value
+    (with_items_is c.self.inside.flows c.trim_flows.new.flows (c.trim_flows.auto.flows ∙ c.deref_mut.ensures.len)) c.trim_flows.ensures.taken c.trim_flows.ensures.parted).none
+
+pub returns-clause-kept : goal.returns-clause-kept
+returns-clause-kept c =
+    kept-lent (network_of c.self.inside) c.args.self.now c.deref.result.now c.deref_mut.result.now c.trim_flows.new.flows (with_items c.self.inside.flows c.trim_flows.new.flows).items c.self.view_is
+    c.self.invariant.lawful c.deref.ensures.value c.deref_mut.ensures.value (with_items_is c.self.inside.flows c.trim_flows.new.flows (c.trim_flows.auto.flows ∙ c.deref_mut.ensures.len)) c.trim_flows.ensures.kept
 
 pub returns-clause-lawful : goal.returns-clause-lawful
 returns-clause-lawful c =
