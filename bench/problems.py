@@ -1,9 +1,10 @@
 #!/usr/bin/env python3
-"""Measures `raw` on layered random problems and chains, and `prove` on a layered problem with its certificate.
+"""Measures `raw` where it finds budgets and where a path is violated, and `prove` on a problem with its certificate.
 
-Times are ratios to md5sum of the same files in the same run.
+Times are seconds, and ratios to md5sum of the same files in the same run.
 
 usage: bench/problems.py PROGRAM [ITEMS ..]      PROGRAM as `rt ci` or `rt run` leaves it: crates/budget_cli/out/budget_cli
+       bench/problems.py --make KIND ITEMS PATH  writes such a problem: budgeted, violated, chain or certified
 """
 
 import os
@@ -14,8 +15,8 @@ import tempfile
 import time
 
 
-def layered(items, path, seed=1, weights=10):
-    """Writes a problem of this many items over layers of nodes; every node lies on a path."""
+def layered(items, path, late, seed=1, weights=10):
+    """Writes a problem of this many items over layers of nodes; every node lies on a path. Ends allow so much a layer."""
     draw = random.Random(seed)
     width = 100
     layers = max(2, items // (3 * width))
@@ -35,7 +36,7 @@ def layered(items, path, seed=1, weights=10):
     for place in range(width):
         lines.append(f"start {place} {draw.randrange(1000)}")
     for place in range(width):
-        lines.append(f"end {nodes - width + place} {layers * 200 + draw.randrange(1000)}")
+        lines.append(f"end {nodes - width + place} {1000 + layers * late + draw.randrange(1000)}")
     with open(path, "w") as file:
         file.write("\n".join(lines) + "\n")
 
@@ -45,9 +46,19 @@ def item(draw, start, to, weights):
     return f"item {start} {to} {least} {least + draw.randrange(1000)} {draw.randrange(weights)}"
 
 
+def budgeted(items, path):
+    """Writes a layered problem whose least slack is at least 0."""
+    layered(items, path, late=400)
+
+
+def violated(items, path):
+    """Writes a layered problem with a path that is too long at least delays."""
+    layered(items, path, late=20)
+
+
 def certified(items, path):
     """Writes a problem without weights, and beside it the certificate whose budgets are the least delays."""
-    layered(items, path, weights=1)
+    layered(items, path, late=400, weights=1)
     with open(path) as file:
         rows = [line.split() for line in file]
     nodes = int(rows[1][1])
@@ -70,10 +81,10 @@ def certified(items, path):
 
 
 def chain(items, path):
-    """Writes one chain whose nodes stand in the worst order of numbers: each item leads to a lower one."""
+    """Writes one violated chain whose nodes stand in the worst order of numbers: each item leads to a lower one."""
     lines = ["problem 1", f"nodes {items + 1}"]
     lines += [f"item {n + 1} {n} 10 20 1" for n in range(items)]
-    lines += [f"start {items} 0", f"end 0 {20 * items}"]
+    lines += [f"start {items} 0", f"end 0 {10 * items - 1}"]
     with open(path, "w") as file:
         file.write("\n".join(lines) + "\n")
 
@@ -108,7 +119,10 @@ def make(kind, items, path):
     subprocess.run([sys.executable, __file__, "--make", kind, str(items), path], check=True)
 
 
-KINDS = {"layered": layered, "chain": chain, "certified": certified}
+KINDS = {"budgeted": budgeted, "violated": violated, "chain": chain, "certified": certified}
+
+# finding budgets scans all arcs for each node that a search takes, so its problems are small
+SIZES = {"budgeted": [200, 500, 1_000, 2_000]}
 
 
 def main():
@@ -116,11 +130,11 @@ def main():
         KINDS[sys.argv[2]](int(sys.argv[3]), sys.argv[4])
         return
     program = os.path.abspath(sys.argv[1])
-    sizes = [int(word) for word in sys.argv[2:]] or [10_000, 100_000, 1_000_000]
+    given = [int(word) for word in sys.argv[2:]]
     with tempfile.TemporaryDirectory() as folder:
         path = os.path.join(folder, "p")
         for kind in KINDS:
-            for items in sizes:
+            for items in given or SIZES.get(kind, [10_000, 100_000, 1_000_000]):
                 make(kind, items, path)
                 report(kind, program, items, path)
 

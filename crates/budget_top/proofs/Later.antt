@@ -1,5 +1,5 @@
 -- What came of a file between two counts of faults also came since an earlier count.
-use Rattle.std.proofs.Common.{◌≡◌, ℕ, ◌≤◌, List, Option, Some, None, Result, Ok, Err, IfOk, string_bytes, arith, subst, inl, inr}
+use Rattle.std.proofs.Common.{◌≡◌, ℕ, ◌≤◌, List, Option, Some, None, Result, Ok, Err, IfOk, arith, subst, inl, inr}
 use Rattle.std.specs.declared.alloc.AllocError.{AllocError}
 use Rattle.bud_base.specs.declared.problems.Problem.{Problem}
 use Rattle.bud_shelf.specs.Outside.{Files, Rose, IsMissing}
@@ -40,15 +40,15 @@ weighed_later p files before mid now name status text order weighed = elim weigh
 -- where the first file holds the problem, the second one's outcome is the job's
 pub proved_from : (p : Problem) (files files' : Option Files) (before mid now : ℕ) (name cert : List ℕ) (r : Result Reply AllocError)
     → Holds IsProblemAnswer files name p → files' ≡ files → before ≤ mid
-    → IfOk r (λ reply. IsWeighed p files' mid now cert reply.status (string_bytes reply.text))
-    → IfOk r (λ reply. IsProve files before now name cert reply.status (string_bytes reply.text))
+    → IfOk r (λ reply. IsWeighed p files' mid now cert reply.status reply.text)
+    → IfOk r (λ reply. IsProve files before now name cert reply.status reply.text)
 proved_from p files files' before mid now name cert (Ok reply) held same order weighed =
     inr (
       p,
       (
         held,
-        weighed_later p files before mid now cert reply.status (string_bytes reply.text) order
-            (subst (λ (f : Option Files). IsWeighed p f mid now cert reply.status (string_bytes reply.text)) same weighed),
+        weighed_later p files before mid now cert reply.status reply.text order
+            (subst (λ (f : Option Files). IsWeighed p f mid now cert reply.status reply.text) same weighed),
       ),
     )
 proved_from p files files' before mid now name cert (Err e) held same order weighed = weighed

@@ -4,3 +4,4 @@ pub mod ProblemStatus
 pub mod Later
 pub mod VerdictStatus
 pub mod OneStatus
+pub mod CertifiedPlans

@@ -1,6 +1,8 @@
 -- The files of a shelf that tells them call for one status.
-use Rattle.std.proofs.Common.{◌≡◌, ◌⊎◌, ℕ, List, Option, Some, None, Result, Ok, Err, arith, ap, sym, ◌∙◌, subst, inl, inr}
+use Rattle.std.proofs.Common.{◌≡◌, ◌⊎◌, ℕ, List, [], Option, Some, None, Result, Ok, Err, arith, ap, sym, ◌∙◌, subst, inl, inr}
 use Rattle.line_text.specs.Parts.{rows_of}
+use Rattle.bud_base.specs.Paths.{Meets}
+use Rattle.bud_base.specs.Soundness.{IsSound}
 use Rattle.bud_base.specs.declared.problems.Problem.{Problem}
 use Rattle.bud_base.specs.declared.texts.TextFault.{TextFault}
 use Rattle.bud_base.specs.declared.texts.TextFault.TheVariants.{Syntax, Value as OutOfRange, NoMemory as TextNoMemory}
@@ -13,15 +15,15 @@ use Rattle.cert_text.proofs.CertificateLaws.{answer_reads as cert_reads, one_rea
 use Rattle.problem_text.specs.Problems.{IsReadAnswer as IsProblemAnswer}
 use Rattle.problem_text.proofs.ProblemLaws.{answer_reads as problem_reads, one_reading as one_problem}
 use Rattle.budget_top.specs.declared.status.Status.{Status}
-use Rattle.budget_top.specs.declared.status.Status.TheVariants.{Words, Memory}
+use Rattle.budget_top.specs.declared.status.Status.TheVariants.{Done, Words, Memory}
 use Rattle.budget_top.specs.Inputs.{Reader, IsRefusal, IsRefusedInput, Holds}
 use Rattle.budget_top.specs.Codes.{code_of}
 use Rattle.budget_top.specs.Words.{Asked, raw, prove}
-use Rattle.budget_top.specs.Runs.{IsOutcome, answered, IsRun, CallsFor, IsCalled}
+use Rattle.budget_top.specs.Runs.{IsOutcome, answered, IsRun, CallsFor, HasBudgets, IsCalled}
 use Rattle.budget_top.specs.Raw.{IsJudged, IsRaw}
 use Rattle.budget_top.specs.Prove.{IsExamined, IsWeighed, IsProve}
 use Rattle.budget_top.proofs.InputStatus.{ReadsOnce, refusal_of, one_refusal, refusal_apart, one_held}
-use Rattle.budget_top.proofs.ProblemStatus.{unsoundness_of, unsoundness_apart, one_unsoundness, measure_of, one_measure}
+use Rattle.budget_top.proofs.ProblemStatus.{unsoundness_of, unsoundness_apart, one_unsoundness, meets, measure_of, one_measure}
 use Rattle.budget_top.proofs.VerdictStatus.{verdict_of, one_verdict}
 
 -- bytes read as one problem, or are refused
@@ -138,17 +140,17 @@ printed_of status (Ok _) old new before now text number put e = inl e
 printed_of status (Err Failed) old new before now text number put e = inr (inr put.1)
 printed_of status (Err SinkNoMemory) old new before now text number put e = inr (inl e)
 
--- a run ends with the status that told files call for
-pub run_called : (job : Option Asked) (files : Option Files) (before now : ℕ) (old new : Option (List ℕ)) (put_before put_now number : ℕ)
+-- a run has the status that each outcome of its job has
+run_of : (job : Option Asked) (files : Option Files) (before now : ℕ) (old new : Option (List ℕ)) (put_before put_now number : ℕ)
     → IsRun job files before now old new put_before put_now number
-    → (status : Status) → CallsFor job files status → IsCalled before now put_before put_now status number
-run_called job None before now old new put_before put_now number run status called = absurd called
-run_called job (Some files) before now old new put_before put_now number run status called =
+    → (status : Status) → ((a : Status) (x : List ℕ) → IsOutcome job files before now a x → (a ≡ status) ⊎ Rose before now)
+    → IsCalled before now put_before put_now status number
+run_of job files before now old new put_before put_now number run status follows =
     let printed : (number ≡ code_of run.0) ⊎ ((number ≡ code_of Memory) ⊎ Rose put_before put_now) =
     printed_of run.0 run.1.1.1.0 old new put_before put_now run.1.0 number run.1.1.1.1.0 run.1.1.1.1.1 in
     elim printed [
       | inl e ↦ elim run.1.1.0 [
-        | inl outcome ↦ elim (one_outcome job files before now run.0 status run.1.0 called.0 outcome called.1) [
+        | inl outcome ↦ elim (follows run.0 run.1.0 outcome) [
           | inl same ↦ inl (e ∙ ap code_of same)
           | inr rose ↦ inr (inr (inl rose))
         ]
@@ -156,6 +158,35 @@ run_called job (Some files) before now old new put_before put_now number run sta
       ]
       | inr other ↦ elim other [ inl e ↦ inr (inl e) | inr rose ↦ inr (inr (inr rose)) ]
     ]
+
+-- a run ends with the status that told files call for
+pub run_called : (job : Option Asked) (files : Option Files) (before now : ℕ) (old new : Option (List ℕ)) (put_before put_now number : ℕ)
+    → IsRun job files before now old new put_before put_now number
+    → (status : Status) → CallsFor job files status → IsCalled before now put_before put_now status number
+run_called job None before now old new put_before put_now number run status called = absurd called
+run_called job (Some files) before now old new put_before put_now number run status called =
+    run_of job (Some files) before now old new put_before put_now number run status
+    (λ a x outcome. one_outcome job files before now a status x called.0 outcome called.1)
+
+-- a told problem that is sound and meets is budgeted
+raw_done : (files : Files) (before now : ℕ) (name : List ℕ) (a : Status) (x : List ℕ) → IsRaw (Some files) before now name a x
+    → HasBudgets (Some (raw name)) (Some files) → (a ≡ Done) ⊎ Rose before now
+raw_done files before now name a x first held =
+    one_input IsProblemAnswer problems_once files before now name a Done x [] (λ p. IsJudged p a x) (λ p. IsSound p × Meets p) first (inr held)
+    (λ p judged good. inl (elim judged [
+      | inl u ↦ absurd (unsoundness_apart p a (unsoundness_of p a x u) good.0)
+      | inr m ↦ one_measure p a Done (measure_of p a x m.1) (meets good.1)
+    ]))
+
+pub run_budgets : (job : Option Asked) (files : Option Files) (before now : ℕ) (old new : Option (List ℕ)) (put_before put_now number : ℕ)
+    → IsRun job files before now old new put_before put_now number
+    → HasBudgets job files → IsCalled before now put_before put_now Done number
+run_budgets None files before now old new put_before put_now number run held = absurd held
+run_budgets (Some (raw name)) None before now old new put_before put_now number run held = absurd held
+run_budgets (Some (raw name)) (Some files) before now old new put_before put_now number run held =
+    run_of (Some (raw name)) (Some files) before now old new put_before put_now number run Done
+    (λ a x outcome. raw_done files before now name a x outcome held)
+run_budgets (Some (prove name cert)) files before now old new put_before put_now number run held = absurd held
 
 -- words that fit no job end as such
 pub run_misfit : (job : Option Asked) (files : Option Files) (before now : ℕ) (old new : Option (List ℕ)) (put_before put_now number : ℕ)

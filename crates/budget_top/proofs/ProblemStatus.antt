@@ -64,7 +64,7 @@ pub data Measure (p : Problem) : Status → Type 0 where
   violated : (path : Path) → IsPath p path → slack p (least_of p) path <ℤ pos 0 → Measure p Violated
 
 pub measure_of : (p : Problem) (status : Status) (text : List ℕ) → IsMeasured p status text → Measure p status
-measure_of p Done text m = meets (elim m [
+measure_of p Done text m = meets (elim m.1.1.0 [
   | inl none ↦ λ path is_path. absurd (none.0 path is_path)
   | inr least ↦ λ path is_path. omega (arith, ints, least.1.0.least path is_path, least.1.1)
 ])

@@ -78,7 +78,7 @@ pub data Verdict (p : Problem) (cert : Cert) : Status → Type 0 where
   fails : (fault : CertFault) → IsRawFault p cert fault → Verdict p cert Certificate
 
 pub verdict_of : (p : Problem) (cert : Cert) (status : Status) (text : List ℕ) → IsVerdict p cert status text → Verdict p cert status
-verdict_of p cert Done text v = holds v.0
+verdict_of p cert Done text v = holds v.0.holds
 verdict_of p cert Violated text v = absurd v
 verdict_of p cert Words text v = absurd v
 verdict_of p cert Fault text v = absurd v

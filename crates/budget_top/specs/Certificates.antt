@@ -1,14 +1,25 @@
--- What is printed of a certificate of a raw problem.
+-- A certificate of a raw problem: what it shows, and what is printed of it.
 use Rattle.std.specs.Prelude.{ℕ, ℤ, ◌<◌, List, [], ◌++◌, codes, length}
 use Rattle.bud_base.specs.Paths.{item_at, start_at, end_at}
 use Rattle.bud_base.specs.declared.problems.Problem.{Problem}
 use Rattle.bud_base.specs.declared.problems.Item.{Item}
+use Rattle.bud_model.specs.Budgets.{AreBest}
+use Rattle.bud_model.specs.Plans.{ProvesBudgets, flow_of}
+use Rattle.cert_text.specs.Certs.{plan_in}
+use Rattle.cert_text.specs.declared.certs.Cert.{Cert}
+use Rattle.plan_cert.specs.Raw.{IsRawCert}
 use Rattle.plan_cert.specs.declared.answers.CertFault.{CertFault}
 use Rattle.plan_cert.specs.declared.answers.CertFault.TheVariants.{Shape, Bounds, Arrival, Start as LateStart, End as LateEnd, NegativeFlow, Balance, Weight}
 use Rattle.plan_cert.specs.declared.answers.CertPlace.{CertPlace}
 use Rattle.plan_cert.specs.declared.answers.CertPlace.TheVariants.{Class, Node, Item as ItemLine, Start, End, Count}
 use Rattle.budget_top.specs.Lines.{count_field, time_field}
 use Rattle.budget_top.specs.Replies.{newline}
+
+-- the certificate holds: its budgets are best over all paths, and its flow proves them
+pub record Certifies (p : Problem) (cert : Cert) : Type 0 where
+  pub holds : IsRawCert p cert
+  pub best : AreBest p (plan_in cert).budgets
+  pub proves : ProvesBudgets p (plan_in cert).budgets (flow_of (plan_in cert))
 
 -- the certificate holds, with this weight
 abbrev pub holds_text : ℤ → List ℕ

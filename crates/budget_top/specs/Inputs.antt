@@ -53,15 +53,15 @@ Holds reads files name value = (bytes : List ℕ) × (IsWhole files name bytes �
 
 abbrev pub IsLoaded : {V : Type 0} → Reader V → Option Files → ℕ → ℕ → List ℕ → Loaded V → Type 0
 IsLoaded reads files before now name (Value value) = Holds reads files name value
-IsLoaded reads files before now name (NoValue reply) = IsRefusedInput reads files before now name reply.status (string_bytes reply.text)
+IsLoaded reads files before now name (NoValue reply) = IsRefusedInput reads files before now name reply.status reply.text
 
 abbrev pub IsFileAnswer : Option Files → ℕ → ℕ → List ℕ → Loaded (Vec ℕ Global) → Type 0
 IsFileAnswer files before now name (Value bytes) = IsWhole files name bytes.items
-IsFileAnswer files before now name (NoValue reply) = IsUnread files before now name reply.status (string_bytes reply.text)
+IsFileAnswer files before now name (NoValue reply) = IsUnread files before now name reply.status reply.text
 
 abbrev pub IsParsed : {V : Type 0} → Reader V → List ℕ → List ℕ → Loaded V → Type 0
 IsParsed reads name bytes (Value value) = reads bytes (Ok value)
-IsParsed reads name bytes (NoValue reply) = IsUnreadable reads name bytes reply.status (string_bytes reply.text)
+IsParsed reads name bytes (NoValue reply) = IsUnreadable reads name bytes reply.status reply.text
 
 abbrev pub IsListableIfLoaded : Loaded Problem → Type 0
 IsListableIfLoaded (Value p) = IsListable p

@@ -2,32 +2,21 @@
 use Rattle.std.specs.Prelude.{◌≡◌, ◌⊎◌, ℕ, List, Option}
 use Rattle.bud_base.specs.Soundness.{IsSound}
 use Rattle.bud_base.specs.declared.problems.Problem.{Problem}
-use Rattle.bud_model.specs.Budgets.{AreBest}
-use Rattle.bud_model.specs.Plans.{ProvesBudgets, flow_of}
 use Rattle.bud_shelf.specs.Outside.{Files}
-use Rattle.cert_text.specs.Certs.{plan_in}
 use Rattle.cert_text.specs.Texts.{IsReadAnswer as IsCertAnswer}
 use Rattle.cert_text.specs.declared.certs.Cert.{Cert}
-use Rattle.plan_cert.specs.Raw.{IsRawCert, IsRawFault}
+use Rattle.plan_cert.specs.Raw.{IsRawFault}
 use Rattle.plan_cert.specs.declared.answers.CertFault.{CertFault}
 use Rattle.problem_text.specs.Problems.{IsReadAnswer as IsProblemAnswer}
 use Rattle.budget_top.specs.declared.status.Status.{Status}
 use Rattle.budget_top.specs.declared.status.Status.TheVariants.{Done, Certificate}
 use Rattle.budget_top.specs.Inputs.{IsRefusedInput, Holds}
 use Rattle.budget_top.specs.Raw.{IsUnsound}
-use Rattle.budget_top.specs.Certificates.{holds_text, certificate_text}
+use Rattle.budget_top.specs.Certificates.{Certifies, holds_text, certificate_text}
 
--- the certificate holds: its budgets are best over all paths, its flow proves them, and its weight is printed
-abbrev pub Stands : Problem → Cert → List ℕ → Type 0
-Stands p cert text =
-    IsRawCert p cert
-    × AreBest p (plan_in cert).budgets
-    × ProvesBudgets p (plan_in cert).budgets (flow_of (plan_in cert))
-    × (text ≡ holds_text cert.weight)
-
--- the certificate holds, or the first of its faults is named
+-- the certificate holds and its weight is printed, or the first of its faults is named
 abbrev pub IsVerdict : Problem → Cert → Status → List ℕ → Type 0
-IsVerdict p cert Done text = Stands p cert text
+IsVerdict p cert Done text = Certifies p cert × (text ≡ holds_text cert.weight)
 IsVerdict p cert Certificate text = (fault : CertFault) × (IsRawFault p cert fault × (text ≡ certificate_text p fault))
 IsVerdict p cert _ text = ⊥
 

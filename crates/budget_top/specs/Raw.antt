@@ -1,15 +1,18 @@
 -- The job `raw P`: how it ends, and what it prints.
-use Rattle.std.specs.Prelude.{◌≡◌, ◌⊎◌, ◌≤ℤ◌, ◌<ℤ◌, ℕ, ℤ, pos, List, Option, Err}
+use Rattle.std.specs.Prelude.{◌≡◌, ◌⊎◌, ◌≤ℤ◌, ◌<ℤ◌, ◌++◌, ℕ, ℤ, pos, List, Option, Err}
 use Rattle.bud_base.specs.Paths.{Path, IsLeastSlack, IsPathOfSlack, HasNoPath}
 use Rattle.bud_base.specs.Soundness.{IsSound, IsCheckAnswer}
 use Rattle.bud_base.specs.declared.problems.Problem.{Problem}
 use Rattle.bud_base.specs.declared.checks.ProblemFault.{ProblemFault}
 use Rattle.bud_base.specs.declared.checks.ProblemFault.TheVariants.{BadNode, BadBounds, BadTime, TooLarge, Cycle, Dead, NoMemory}
 use Rattle.bud_shelf.specs.Outside.{Files}
+use Rattle.cert_text.specs.Texts.{Reads}
+use Rattle.cert_text.specs.declared.certs.Cert.{Cert}
 use Rattle.problem_text.specs.Problems.{IsReadAnswer as IsProblemAnswer}
 use Rattle.budget_top.specs.declared.status.Status.{Status}
 use Rattle.budget_top.specs.declared.status.Status.TheVariants.{Done, Violated, Design, Limit}
 use Rattle.budget_top.specs.Inputs.{IsRefusedInput, Holds}
+use Rattle.budget_top.specs.Certificates.{Certifies}
 use Rattle.budget_top.specs.Replies.{meets_text, no_paths_text, violated_text}
 use Rattle.budget_top.specs.Faults.{problem_text}
 
@@ -23,9 +26,17 @@ IsDesignFault (Cycle items) = Unit {0}
 IsDesignFault (Dead n) = Unit {0}
 IsDesignFault NoMemory = ⊥
 
--- a sound problem: no paths, or the least slack, or a worst violated path
+-- a first line: no paths, or the least slack, which is at least 0
+abbrev pub IsFirstLine : Problem → List ℕ → Type 0
+IsFirstLine p line = (HasNoPath p × (line ≡ no_paths_text)) ⊎ ((s : ℤ) × (IsLeastSlack p s × (pos 0 ≤ℤ s) × (line ≡ meets_text s)))
+
+-- the text reads as a certificate that holds: its budgets are best over all paths, and its flow proves them
+abbrev pub IsCertText : Problem → List ℕ → Type 0
+IsCertText p text = (cert : Cert) × (Reads text cert × Certifies p cert)
+
+-- a sound problem: the first line and a certificate of best budgets, or a worst violated path
 abbrev pub IsMeasured : Problem → Status → List ℕ → Type 0
-IsMeasured p Done text = (HasNoPath p × (text ≡ no_paths_text)) ⊎ ((s : ℤ) × (IsLeastSlack p s × (pos 0 ≤ℤ s) × (text ≡ meets_text s)))
+IsMeasured p Done text = (line : List ℕ) × ((rest : List ℕ) × (IsFirstLine p line × IsCertText p rest × (text ≡ line ++ rest)))
 IsMeasured p Violated text = (s : ℤ) × ((path : Path) × (IsLeastSlack p s × (s <ℤ pos 0) × IsPathOfSlack p s path × (text ≡ violated_text p s path)))
 IsMeasured p _ text = ⊥
 

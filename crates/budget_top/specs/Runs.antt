@@ -1,5 +1,9 @@
 -- A whole run: the words, the job's reply, and the sink.
 use Rattle.std.specs.Prelude.{◌≡◌, ◌⊎◌, ℕ, List, Option, Some, None, Result, Ok, Err}
+use Rattle.bud_base.specs.Paths.{Meets}
+use Rattle.bud_base.specs.Soundness.{IsSound}
+use Rattle.bud_base.specs.declared.problems.Problem.{Problem}
+use Rattle.problem_text.specs.Problems.{IsReadAnswer as IsProblemAnswer}
 use Rattle.bud_shelf.specs.Outside.{Files, Rose, IsPutAnswer, IsAppended}
 use Rattle.bud_shelf.specs.declared.sinks.SinkFault.{SinkFault}
 use Rattle.bud_shelf.specs.declared.sinks.SinkFault.TheVariants.{Failed, NoMemory}
@@ -7,6 +11,7 @@ use Rattle.budget_top.specs.declared.status.Status.{Status}
 use Rattle.budget_top.specs.declared.status.Status.TheVariants.{Fault, Words, Memory}
 use Rattle.budget_top.specs.Codes.{code_of}
 use Rattle.budget_top.specs.Words.{Asked, raw, prove}
+use Rattle.budget_top.specs.Inputs.{Holds}
 use Rattle.budget_top.specs.Faults.{words_line, memory_line}
 use Rattle.budget_top.specs.Raw.{IsRaw}
 use Rattle.budget_top.specs.Prove.{IsProve}
@@ -45,6 +50,13 @@ Ends job files before now old new status = (text : List ℕ) × (IsOutcome job f
 abbrev pub CallsFor : Option Asked → Option Files → Status → Type 0
 CallsFor job (Some files) status = (text : List ℕ) × IsOutcome job (Some files) 0 0 status text
 CallsFor job None status = ⊥
+
+-- a shelf that tells its files holds the problem of `raw`, and it is sound and meets at least delays
+abbrev pub HasBudgets : Option Asked → Option Files → Type 0
+HasBudgets (Some (raw problem)) (Some files) = (p : Problem) × (Holds IsProblemAnswer (Some files) problem p × (IsSound p × Meets p))
+HasBudgets (Some (raw problem)) None = ⊥
+HasBudgets (Some (prove problem cert)) files = ⊥
+HasBudgets None files = ⊥
 
 -- the number is that of the status, unless memory was wanting or a count of faults rose
 abbrev pub IsCalled : ℕ → ℕ → ℕ → ℕ → Status → ℕ → Type 0

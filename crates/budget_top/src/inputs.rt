@@ -69,18 +69,12 @@ fn read_file<S: Shelf>(
         Ok(()) => Ok(Loaded::Value(text)),
         Err(ShelfFault::TooLong(bytes)) => {
             let text = faults::length(alloc, name, bytes)?;
-            Ok(Loaded::Refused(Reply {
-                status: Status::Limit,
-                text,
-            }))
+            Ok(Loaded::Refused(Reply::new(Status::Limit, text)))
         }
         Err(ShelfFault::NoMemory) => Err(AllocError),
         Err(ShelfFault::Missing | ShelfFault::Failed) => {
             let text = faults::fault(alloc, name)?;
-            Ok(Loaded::Refused(Reply {
-                status: Status::Fault,
-                text,
-            }))
+            Ok(Loaded::Refused(Reply::new(Status::Fault, text)))
         }
     }
 }
@@ -96,10 +90,7 @@ fn problem_of(alloc: Global, name: &str, text: &[u8]) -> Result<Loaded<Problem>,
         Err(TextFault::NoMemory) => Err(AllocError),
         Err(fault) => {
             let text = faults::refused(alloc, name, fault)?;
-            Ok(Loaded::Refused(Reply {
-                status: Status::Refused,
-                text,
-            }))
+            Ok(Loaded::Refused(Reply::new(Status::Refused, text)))
         }
     }
 }
@@ -115,10 +106,7 @@ fn cert_of(alloc: Global, name: &str, text: &[u8]) -> Result<Loaded<Cert>, Alloc
         Err(TextFault::NoMemory) => Err(AllocError),
         Err(fault) => {
             let text = faults::refused(alloc, name, fault)?;
-            Ok(Loaded::Refused(Reply {
-                status: Status::Refused,
-                text,
-            }))
+            Ok(Loaded::Refused(Reply::new(Status::Refused, text)))
         }
     }
 }

@@ -5,6 +5,7 @@ mod certificates;
 mod faults;
 mod inputs;
 mod lines;
+mod plans;
 mod prove;
 mod raw;
 mod replies;

@@ -1,9 +1,9 @@
 ghost use Rattle.std.specs.Prelude.{◌≡◌, ◌≤◌, IfOk, string_bytes};
 ghost use Rattle.bud_base.specs.Soundness.{IsListable, IsSound};
-ghost use Rattle.bud_model.specs.Budgets.{AreBest};
-ghost use Rattle.bud_model.specs.Plans.{HasPlanNumbers, ProvesBudgets, flow_of};
+ghost use Rattle.bud_model.specs.Plans.{HasPlanNumbers};
 ghost use Rattle.cert_text.specs.Certs.{plan_in};
-ghost use Rattle.plan_cert.specs.Raw.{IsRawCert, IsRawFault};
+ghost use Rattle.plan_cert.specs.Raw.{IsRawFault};
+ghost use Rattle.budget_top.specs.Certificates.{Certifies};
 ghost use Rattle.budget_top.specs.Prove.{IsProve, IsWeighed, IsExamined, IsVerdict};
 
 use crate::certificates;
@@ -22,7 +22,7 @@ pub fn prove<S: Shelf>(
     problem: &str,
     cert: &str,
 ) -> Result<Reply, AllocError>
-    ensures reply { IfOk result (λ reply. IsProve (S.files shelf.old) (S.faults shelf.old) (S.faults shelf.new) problem.now cert.now reply.status (string_bytes reply.text)) }
+    ensures reply { IfOk result (λ reply. IsProve (S.files shelf.old) (S.faults shelf.old) (S.faults shelf.new) problem.now cert.now reply.status reply.text) }
     ensures files { S.files shelf.new ≡ S.files shelf.old }
     ensures later { S.faults shelf.old ≤ S.faults shelf.new }
 {
@@ -40,7 +40,7 @@ fn weigh<S: Shelf>(
     cert: &str,
 ) -> Result<Reply, AllocError>
     requires { IsListable problem.now }
-    ensures reply { IfOk result (λ reply. IsWeighed problem.now (S.files shelf.old) (S.faults shelf.old) (S.faults shelf.new) cert.now reply.status (string_bytes reply.text)) }
+    ensures reply { IfOk result (λ reply. IsWeighed problem.now (S.files shelf.old) (S.faults shelf.old) (S.faults shelf.new) cert.now reply.status reply.text) }
     ensures files { S.files shelf.new ≡ S.files shelf.old }
     ensures later { S.faults shelf.old ≤ S.faults shelf.new }
 {
@@ -54,7 +54,7 @@ fn weigh<S: Shelf>(
 fn examine(alloc: Global, problem: &Problem, cert: &Cert) -> Result<Reply, AllocError>
     requires listable { IsListable problem.now }
     requires numbers { HasPlanNumbers (plan_in cert.now) }
-    ensures { IfOk result (λ reply. IsExamined problem.now cert.now reply.status (string_bytes reply.text)) }
+    ensures { IfOk result (λ reply. IsExamined problem.now cert.now reply.status reply.text) }
 {
     match problem.check() {
         Ok(()) => verdict(alloc, problem, cert),
@@ -66,7 +66,7 @@ fn examine(alloc: Global, problem: &Problem, cert: &Cert) -> Result<Reply, Alloc
 fn verdict(alloc: Global, problem: &Problem, cert: &Cert) -> Result<Reply, AllocError>
     requires sound { IsSound problem.now }
     requires numbers { HasPlanNumbers (plan_in cert.now) }
-    ensures { IfOk result (λ reply. IsVerdict problem.now cert.now reply.status (string_bytes reply.text)) }
+    ensures { IfOk result (λ reply. IsVerdict problem.now cert.now reply.status reply.text) }
 {
     let mut sums = Sums::new(alloc, problem)?;
     match check_raw(problem, cert, &mut sums) {
@@ -77,17 +77,12 @@ fn verdict(alloc: Global, problem: &Problem, cert: &Cert) -> Result<Reply, Alloc
 
 /// Says that the certificate holds.
 fn stand(alloc: Global, problem: &Problem, cert: &Cert, weight: i128) -> Result<Reply, AllocError>
-    requires holds { IsRawCert problem.now cert.now }
-    requires best { AreBest problem.now (plan_in cert.now).budgets }
-    requires proves { ProvesBudgets problem.now (plan_in cert.now).budgets (flow_of (plan_in cert.now)) }
+    requires holds { Certifies problem.now cert.now }
     requires weight { cert.now.weight ≡ weight }
-    ensures { IfOk result (λ reply. IsVerdict problem.now cert.now reply.status (string_bytes reply.text)) }
+    ensures { IfOk result (λ reply. IsVerdict problem.now cert.now reply.status reply.text) }
 {
     let text = certificates::holds(alloc, weight)?;
-    Ok(Reply {
-        status: Status::Done,
-        text,
-    })
+    Ok(Reply::new(Status::Done, text))
 }
 
 /// Names the certificate's first fault.
@@ -98,11 +93,8 @@ fn doubt(
     fault: CertFault,
 ) -> Result<Reply, AllocError>
     requires { IsRawFault problem.now cert.now fault }
-    ensures { IfOk result (λ reply. IsVerdict problem.now cert.now reply.status (string_bytes reply.text)) }
+    ensures { IfOk result (λ reply. IsVerdict problem.now cert.now reply.status reply.text) }
 {
     let text = certificates::fault(alloc, problem, fault)?;
-    Ok(Reply {
-        status: Status::Certificate,
-        text,
-    })
+    Ok(Reply::new(Status::Certificate, text))
 }

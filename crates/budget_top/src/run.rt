@@ -1,7 +1,7 @@
 ghost use Rattle.std.specs.Prelude.{◌≡◌, ◌≤◌, ◌⊎◌, None, IfOk, map, string_bytes};
 ghost use Rattle.bud_shelf.specs.Outside.{Rose, IsPutAnswer};
 ghost use Rattle.budget_top.specs.Words.{job_of, asked};
-ghost use Rattle.budget_top.specs.Runs.{IsRun, IsReply, IsPrinted, Ends, CallsFor, IsCalled};
+ghost use Rattle.budget_top.specs.Runs.{IsRun, IsReply, IsPrinted, Ends, CallsFor, HasBudgets, IsCalled};
 ghost use Rattle.budget_top.specs.Codes.{code_of};
 ghost use Rattle.budget_top.specs.declared.status.Status.{Status};
 ghost use Rattle.budget_top.specs.declared.status.Status.TheVariants.{Done, Violated, Words, Fault, Refused, Design, Limit, Certificate};
@@ -41,6 +41,9 @@ pub fn run_budget<S: Shelf, K: Sink>(
 
     // A shelf that tells its files calls for one status, and no other comes unless memory is wanting or a count rises.
     ensures exact { (status : Status) → CallsFor (job_of (map string_bytes words.now)) (S.files shelf.old) status → IsCalled (S.faults shelf.old) (S.faults shelf.new) (K.faults out.old) (K.faults out.new) status result }
+
+    // Wherever no path of a sound problem is violated, best budgets are found.
+    ensures budgets { HasBudgets (job_of (map string_bytes words.now)) (S.files shelf.old) → IsCalled (S.faults shelf.old) (S.faults shelf.new) (K.faults out.old) (K.faults out.new) Done result }
 {
     answer(alloc, words, shelf, out)
 }
@@ -53,7 +56,7 @@ fn answer<S: Shelf, K: Sink>(alloc: Global, words: &[String], shelf: &mut S, out
     match asked_job(words) {
         None => print(out, Status::Words, b"words\n"),
         Some(job) => match done(alloc, job, shelf) {
-            Ok(reply) => print(out, reply.status, reply.text.as_bytes()),
+            Ok(reply) => print(out, reply.status, reply.text.as_slice()),
             Err(_) => print(out, Status::Memory, b"memory\n"),
         },
     }
@@ -61,7 +64,7 @@ fn answer<S: Shelf, K: Sink>(alloc: Global, words: &[String], shelf: &mut S, out
 
 /// Does a job.
 fn done<S: Shelf>(alloc: Global, job: Job<'_>, shelf: &mut S) -> Result<Reply, AllocError>
-    ensures reply { IfOk result (λ reply. IsReply (asked job.entry) (S.files shelf.old) (S.faults shelf.old) (S.faults shelf.new) reply.status (string_bytes reply.text)) }
+    ensures reply { IfOk result (λ reply. IsReply (asked job.entry) (S.files shelf.old) (S.faults shelf.old) (S.faults shelf.new) reply.status reply.text) }
     ensures files { S.files shelf.new ≡ S.files shelf.old }
     ensures later { S.faults shelf.old ≤ S.faults shelf.new }
 {

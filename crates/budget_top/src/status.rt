@@ -1,5 +1,7 @@
-ghost use Rattle.std.specs.Prelude.{◌≡◌};
+ghost use Rattle.std.specs.Prelude.{◌≡◌, string_bytes};
 ghost use Rattle.budget_top.specs.Codes.{code_of};
+
+use bud_base::Text;
 
 /// How a run ends.
 #[derive(Clone, Copy, Debug, PartialEq, Eq)]
@@ -35,5 +37,17 @@ pub fn code(status: Status) -> u8
 #[derive(Drop)]
 pub struct Reply {
     pub status: Status,
-    pub text: String,
+    pub text: Text,
+}
+
+impl Reply {
+    pub fn new(status: Status, text: String) -> Reply
+        ensures status { result.status ≡ status }
+        ensures text { result.text ≡ string_bytes text }
+    {
+        Reply {
+            status,
+            text: Text::from_vec(text.into_bytes()),
+        }
+    }
 }

@@ -26,22 +26,73 @@ fn owned(alloc: Global, words: &[&str]) -> Result<Vec<String>, AllocError> {
     Ok(all)
 }
 
+/// What `raw` prints of a problem, and what `prove` prints of the certificate behind the first line.
+fn budgeted(alloc: Global, problem: &str) -> Result<(String, String), Fail> {
+    let (_, printed) = raw(alloc, problem)?;
+    let cert = match printed.as_str().split_once("\n") {
+        Some((_, cert)) => String::from_str(alloc, cert)?,
+        None => String::new(alloc),
+    };
+    let (_, proved) = prove(alloc, problem, cert.as_str())?;
+    Ok((printed, proved))
+}
+
 #[test]
-fn raw_answers_the_worked_problems(rt: HostRuntime) -> Result<(), Fail> {
-    let chain = "problem 1\nnodes 3\nitem 0 1 40 100 3\nitem 1 2 30 90 2\nstart 0 0\nend 2 ";
-    for (end, status, text) in [
-        ("150\n", 0, "meets 80\n"),
-        ("70\n", 0, "meets 0\n"),
+fn raw_budgets_the_worked_problems(rt: HostRuntime) -> Result<(), Fail> {
+    let chain = "problem 1\nnodes 3\nitem 0 1 40 100 3\nitem 1 2 30 90 2\nstart 0 0\nend 2 150\n";
+    let fork =
+        "problem 1\nnodes 4\nitem 0 1 10 100 1\nitem 1 2 10 100 1\nitem 1 3 10 100 1\nstart 0 0\nend 2 100\nend 3 100\n";
+    for (problem, text, proved) in [
         (
-            "69",
-            1,
-            "violated -1\nstart 0 0 0\narc 0 1 40\narc 1 2 30\nend 2 0 69\n",
+            chain,
+            "meets 80\ncertificate 1\nnode 0 0 0\nnode 1 0 100\nnode 2 0 150\nitem 0 1 0 100 2\nitem 1 2 0 50 2\nstart 0 0 2\nend 2 0 2\nweight 400\n",
+            "holds 400\n",
+        ),
+        (
+            fork,
+            "meets 80\ncertificate 1\nnode 0 0 0\nnode 1 0 10\nnode 2 0 100\nnode 3 0 100\nitem 0 1 0 10 2\nitem 1 2 0 90 1\nitem 1 3 0 90 1\nstart 0 0 2\nend 2 0 1\nend 3 0 1\nweight 190\n",
+            "holds 190\n",
+        ),
+        (
+            "problem 1\nnodes 0\n",
+            "no paths\ncertificate 1\nweight 0\n",
+            "holds 0\n",
         ),
     ] {
-        let problem = format!(in rt.alloc(); "{chain}{end}")?;
-        let (answer, printed) = raw(rt.alloc(), problem.as_str())?;
-        assert_eq!(rt; answer, status, "at {end}");
+        let (printed, answer) = budgeted(rt.alloc(), problem)?;
         assert_eq!(rt; printed.as_str(), text);
+        assert_eq!(rt; answer.as_str(), proved);
+    }
+    Ok(())
+}
+
+#[test]
+fn raw_writes_any_of_several_best_plans(rt: HostRuntime) -> Result<(), Fail> {
+    for (problem, line, proved) in [
+        (
+            "problem 1\nnodes 3\nitem 0 1 40 100 3\nitem 1 2 30 90 2\nstart 0 0\nend 2 70\n",
+            "meets 0\n",
+            "holds 180\n",
+        ),
+        (
+            "problem 1\nnodes 3\nitem 0 1 0 100 1\nitem 1 2 0 100 1\nstart 0 0\nend 2 150\n",
+            "meets 150\n",
+            "holds 150\n",
+        ),
+        (
+            "problem 1\nnodes 2\nitem 1 0 1 1 0\nstart 1 0\nend 0 5\n",
+            "meets 4\n",
+            "holds 0\n",
+        ),
+        (
+            "problem 1\nnodes 1\nstart 0 3\nend 0 5\n",
+            "meets 2\n",
+            "holds 0\n",
+        ),
+    ] {
+        let (printed, answer) = budgeted(rt.alloc(), problem)?;
+        assert!(rt; printed.as_str().starts_with(line));
+        assert_eq!(rt; answer.as_str(), proved);
     }
     Ok(())
 }
@@ -49,7 +100,6 @@ fn raw_answers_the_worked_problems(rt: HostRuntime) -> Result<(), Fail> {
 #[test]
 fn raw_names_each_refusal(rt: HostRuntime) -> Result<(), Fail> {
     for (problem, status, text) in [
-        ("problem 1\nnodes 0\n", 0, "no paths\n"),
         ("problem 1\nnodes 1\n", 5, "design dead 0\n"),
         (
             "problem 1\nnodes 2\nitem 0 1 0 5 1\nitem 1 0 0 5 1\nstart 0 0\nend 1 9\n",
@@ -57,11 +107,10 @@ fn raw_names_each_refusal(rt: HostRuntime) -> Result<(), Fail> {
             "design cycle 2\narc 0 1\narc 1 0\n",
         ),
         (
-            "problem 1\nnodes 2\nitem 1 0 1 1 0\nstart 1 0\nend 0 5\n",
-            0,
-            "meets 4\n",
+            "problem 1\nnodes 3\nitem 0 1 40 100 3\nitem 1 2 30 90 2\nstart 0 0\nend 2 69",
+            1,
+            "violated -1\nstart 0 0 0\narc 0 1 40\narc 1 2 30\nend 2 0 69\n",
         ),
-        ("problem 1\nnodes 1\nstart 0 3\nend 0 5\n", 0, "meets 2\n"),
         ("problem 1\nnodes 1\nstart 1 0\n", 5, "design bad-node 1\n"),
         (
             "problem 1\nnodes 1\nitem 0 0 2 1 0\n",
@@ -116,7 +165,9 @@ fn failing_calls_and_long_files_are_named(rt: HostRuntime) -> Result<(), Fail> {
         assert_eq!(rt; answer, status);
     }
     let printed = str::from_utf8(sink.bytes())?;
-    assert!(rt; printed.starts_with("no paths\nfault p\nlimit v 268435457\n"));
+    assert!(rt;
+        printed.starts_with("no paths\ncertificate 1\nweight 0\nfault p\nlimit v 268435457\n")
+    );
     Ok(())
 }
 

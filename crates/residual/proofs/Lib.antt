@@ -13,3 +13,4 @@ pub mod Pushing
 pub mod Walking
 pub mod Marking
 pub mod Surplus
+pub mod Rows

@@ -9,3 +9,6 @@ mod walks;
 
 pub use arcs::Look;
 pub use nets::Net;
+
+#[cfg(test)]
+mod tests;

@@ -1,0 +1,6 @@
+pub mod FrontBytes
+pub mod FrontLemmas
+pub mod PairLaws
+pub mod ProgressLaws
+pub mod TokenLaws
+pub mod SpellingLaws

@@ -1,0 +1,15 @@
+pub mod Left
+pub mod Words
+pub mod Names
+pub mod Numbers
+pub mod Constants
+pub mod Pieces
+pub mod Joining
+pub mod Lists
+pub mod Links
+pub mod Declarations
+pub mod Items
+pub mod Answers
+pub mod Readings
+pub mod Joints
+pub mod Repeats
