@@ -6,3 +6,6 @@ mod plans;
 mod readings;
 
 pub use plans::plan_of;
+
+#[cfg(test)]
+mod tests;

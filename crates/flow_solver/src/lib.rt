@@ -7,3 +7,6 @@ mod searches;
 mod solving;
 
 pub use solving::solve;
+
+#[cfg(test)]
+mod tests;
