@@ -5,6 +5,8 @@ mod finder;
 mod neighbours;
 mod regions;
 mod reserved;
+#[cfg(test)]
+mod tests;
 mod words;
 
 pub use finder::{first_left_out, one_first};
