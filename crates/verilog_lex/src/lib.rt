@@ -5,6 +5,8 @@ mod classes;
 mod fronts;
 mod kinds;
 mod lexer;
+#[cfg(test)]
+mod tests;
 
 pub use kinds::{Kind, LexFault, Token, TokenList};
 pub use lexer::{one_list, tokens};

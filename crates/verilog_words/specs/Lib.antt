@@ -1,3 +1,5 @@
 pub mod Reserved
 pub mod Outside
+pub mod Turns
 pub mod LeftOut
+pub mod Neighbours

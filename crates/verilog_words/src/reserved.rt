@@ -78,7 +78,7 @@ pub fn is_reserved(word: &[u8]) -> bool
 
 /// Whether it names a directive that is skipped to the end of its line.
 #[tactic(auto, unfolding(crate::specs::Reserved::is_skipped))]
-fn is_skipped(word: &[u8]) -> bool
+pub fn is_skipped(word: &[u8]) -> bool
     ensures { result ≡ is_skipped word.now }
 {
     (word == b"timescale".as_slice())
