@@ -1,6 +1,6 @@
 -- Tokens, stretch by stretch.
 use Rattle.std.proofs.Common.{◌≡◌, ℕ, zero, suc, ◌+◌, ◌<◌, ◌≤◌, ◌==◌, ◌||◌, false, Option, Some, None, List, [], ◌∷◌, ◌++◌, length, take, drop, refl, sym, ap, ◌∙◌, arith}
-use Rattle.std.proofs.lemmas.List.{length-drop}
+use Rattle.std.proofs.lemmas.List.{length-drop, length-append}
 use Rattle.std.specs.Char.{is_ascii_graphic}
 use Rattle.text_scan.proofs.Binds.{by_test, by_option}
 use Rattle.line_text.specs.Parts.{Part}
@@ -113,3 +113,25 @@ only_tokens _ _ _ (passed at n b bs ts is are) = only_tokens (at + n) (drop n (b
 only_tokens _ _ _ (token at n b bs kind ts is are) =
     ap (λ rest. record { kind = kind; at = at; bytes = take n (b ∷ bs) } ∷ rest) (only_tokens (at + n) (drop n (b ∷ bs)) ts are)
     ∙ sym (tokens_cut at (b ∷ bs) (Some kind, n) (sym is) (omega arith))
+
+told_few : (kind : Option Kind) (part : Part) → length (told kind part) ≤ 1
+told_few None part = omega arith
+told_few (Some kind) part = omega arith
+
+few_from : (n at : ℕ) (bytes : List ℕ) → length (tokens_from n at bytes) ≤ length bytes
+unfolding tokens_from
+few_from zero at bytes = omega arith
+few_from (suc n) at [] = omega arith
+few_from (suc n) at (b ∷ bs) =
+    let s = stretch (b ∷ bs) in
+    let more = stretch_some b bs in
+    let left = length-drop s.1 (b ∷ bs) in
+    let one = told_few s.0 (record { at = at; bytes = take s.1 (b ∷ bs) }) in
+    let others = few_from n (at + s.1) (drop s.1 (b ∷ bs)) in
+    let both = length-append (told s.0 (record { at = at; bytes = take s.1 (b ∷ bs) })) (tokens_from n (at + s.1) (drop s.1 (b ∷ bs))) in
+    omega arith
+
+-- a part has no more tokens than bytes
+pub tokens_few : (part : Part) → length (tokens part) ≤ length part.bytes
+unfolding tokens
+tokens_few part = few_from (length part.bytes) part.at part.bytes

@@ -1,0 +1,6 @@
+pub mod UntilLemmas
+pub mod NameLemmas
+pub mod NumberLemmas
+pub mod NestLemmas
+pub mod ValueLemmas
+pub mod FileLaws

@@ -1,0 +1,22 @@
+//! The reader of delay files (IEEE 1497).
+#![tactic(auto)]
+
+mod cells;
+mod checks;
+mod contexts;
+mod entries;
+mod faults;
+mod headers;
+mod left_out;
+mod marks;
+mod names;
+mod nests;
+mod numbers;
+mod reader;
+mod rows;
+mod said;
+mod settings;
+mod values;
+
+pub use faults::SdfFault;
+pub use reader::{one_value, read_sdf};
