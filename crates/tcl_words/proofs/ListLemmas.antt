@@ -1,29 +1,40 @@
 -- The elements of a list, from its first on.
-use Rattle.std.proofs.Common.{◌≡◌, ℕ, suc, ◌+◌, ◌-◌, ◌≤◌, not, Bool, true, false, List, [], ◌∷◌, ◌++◌, length, map, filter, take, drop, refl, sym, ap, ◌∙◌, subst, arith, length-append, length-drop}
+use Rattle.std.proofs.Common.{◌≡◌, ◌==◌, ◌&&◌, ℕ, suc, ◌+◌, ◌-◌, ◌≤◌, not, Bool, true, false, List, [], ◌∷◌, ◌++◌, length, map, filter, take, drop, refl, sym, ap, ◌∙◌, subst, arith, length-append, length-drop}
 use Rattle.std.proofs.Math.Seq.{take-append_seam}
-use Rattle.std.proofs.lemmas.Bool.{and_parts, and_from}
+use Rattle.std.proofs.lemmas.Bool.{and_parts, and_from, eqb-true}
 use Rattle.std.proofs.lemmas.List.{append-nil, take_rest}
 use Rattle.std.specs.List.{list_all, slice_split}
 use Rattle.text_scan.proofs.Binds.{by_test}
 use Rattle.tcl_words.specs.Characters.{spelling, size, is_gap}
 use Rattle.tcl_words.specs.Commands.{behind_gap}
 use Rattle.tcl_words.specs.Scanning.{ends_by, from_gap}
-use Rattle.tcl_words.specs.Lists.{list_characters, has_character, runs, elements}
+use Rattle.tcl_words.specs.Lists.{joined, list_characters, has_character, runs, elements}
 use Rattle.tcl_words.specs.declared.characters.Character.{Character}
 use Rattle.tcl_words.specs.declared.characters.Character.TheVariants.{Plain}
 use Rattle.tcl_words.specs.declared.characters.Scope.TheVariants.{Brackets}
 use Rattle.tcl_words.specs.declared.words.WordKind.{WordKind}
 use Rattle.tcl_words.specs.declared.words.WordKind.TheVariants.{Bare, Quoted, Braced, Bracket}
-use Rattle.tcl_words.proofs.CharacterLemmas.{spelling_characters, spelling-append}
+use Rattle.tcl_words.proofs.CharacterLemmas.{spelling-append}
 
 plain_spelled : (bs : List ℕ) → spelling (map (λ b. Plain b) bs) ≡ bs
 plain_spelled [] = refl
 plain_spelled (b ∷ bs) = ap (λ xs. b ∷ xs) (plain_spelled bs)
 
+joined_spelled : (bs : List ℕ) → spelling (joined bs) ≡ bs
+unfolding joined
+joined_spelled [] = refl
+joined_spelled (b ∷ []) = refl
+joined_spelled (b ∷ c ∷ bs) =
+    by_test (b == 92 && c == 10)
+    (λ is.
+    let slash : 92 ≡ b = sym (eqb-true b 92 (and_parts (b == 92) (c == 10) is).0) in
+    rw is (ap (λ n. n ∷ (c ∷ spelling (joined bs))) slash ∙ ap (λ xs. b ∷ (c ∷ xs)) (joined_spelled bs)))
+    (λ isnt. rw isnt (ap (λ xs. b ∷ xs) (joined_spelled (c ∷ bs))))
+
 list_spelled : (kind : WordKind) (bs : List ℕ) → spelling (list_characters kind bs) ≡ bs
 list_spelled Bare bs = plain_spelled bs
 list_spelled Quoted bs = plain_spelled bs
-list_spelled Braced bs = spelling_characters bs
+list_spelled Braced bs = joined_spelled bs
 list_spelled Bracket bs = plain_spelled bs
 
 not_true : (b : Bool) → not b ≡ true → b ≡ false

@@ -1,18 +1,24 @@
 -- The elements of a word's text that is a list.
-use Rattle.std.specs.Prelude.{ℕ, Bool, true, false, List, [], ◌∷◌, map, filter}
+use Rattle.std.specs.Prelude.{ℕ, ◌==◌, ◌&&◌, if◌then◌else◌, Bool, true, false, List, [], ◌∷◌, map, filter}
 use Rattle.std.specs.List.{slice_split}
-use Rattle.tcl_words.specs.Characters.{characters, spelling, is_gap}
+use Rattle.tcl_words.specs.Characters.{spelling, is_gap}
 use Rattle.tcl_words.specs.declared.characters.Character.{Character}
-use Rattle.tcl_words.specs.declared.characters.Character.TheVariants.{Plain}
+use Rattle.tcl_words.specs.declared.characters.Character.TheVariants.{Plain, Escaped}
 use Rattle.tcl_words.specs.declared.characters.Scope.TheVariants.{Brackets}
 use Rattle.tcl_words.specs.declared.words.WordKind.{WordKind}
 use Rattle.tcl_words.specs.declared.words.WordKind.TheVariants.{Bare, Quoted, Braced, Bracket}
 
--- the characters of a word's text: in braces the backslashes are kept, elsewhere they have had their meaning
+-- the bytes as characters, but a backslash directly before a line feed, which is one with it
+unfoldable pub joined : List ℕ → List Character
+joined [] = []
+joined (b ∷ []) = Plain b ∷ []
+joined (b ∷ c ∷ bs) = if b == 92 && c == 10 then Escaped c ∷ joined bs else Plain b ∷ joined (c ∷ bs)
+
+-- the characters of a list: in the text of a word in braces a backslash before a line feed is kept, and is white space
 abbrev pub list_characters : WordKind → List ℕ → List Character
 list_characters Bare text = map (λ b. Plain b) text
 list_characters Quoted text = map (λ b. Plain b) text
-list_characters Braced text = characters text
+list_characters Braced text = joined text
 list_characters Bracket text = map (λ b. Plain b) text
 
 abbrev pub has_character : List Character → Bool

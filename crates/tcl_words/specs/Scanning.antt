@@ -18,7 +18,7 @@ use Rattle.tcl_words.specs.declared.words.Word.{Word}
 unfoldable pub left : List ℕ → ℕ → List Character
 left text at = characters (drop at text)
 
--- this character can't be behind a word's end alone: white space or an end
+-- what may stand behind a word: white space or an end
 abbrev pub is_behind : Scope → Character → Bool
 is_behind scope c = is_gap scope c || is_end scope c
 

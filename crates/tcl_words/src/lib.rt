@@ -7,9 +7,10 @@ mod ends;
 mod lists;
 mod readers;
 mod splitting;
+#[cfg(test)]
+mod tests;
 mod words;
 
-pub use characters::{Character, Scope};
 pub use lists::next_element;
 pub use splitting::{bracket_words, commands, one_splitting};
 pub use words::{Command, CommandList, TclFault, Word, WordKind};

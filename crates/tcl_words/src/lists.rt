@@ -4,23 +4,23 @@ ghost use Rattle.tcl_words.specs.Commands.{behind_gap};
 ghost use Rattle.tcl_words.specs.Scanning.{from_gap};
 ghost use Rattle.tcl_words.specs.declared.characters.Scope.TheVariants.{Brackets as Inside};
 
-use crate::characters::{Character, Scope, is_gap, next_character};
+use crate::characters::{Character, Scope, is_gap};
 use crate::words::WordKind;
 
 /// The character of a list at an offset, and the offset behind it; None at the end.
 #[inline]
-#[tactic(auto, unfolding(crate::specs::Scanning::left))]
+#[tactic(auto, unfolding(crate::specs::Lists::joined))]
 fn list_character(kind: WordKind, text: &[u8], at: usize) -> Option<(Character, usize)>
     ensures first { MatchOption result (list_characters kind (drop at text.now) ≡ []) (λ r. list_characters kind (drop at text.now) ≡ r.0 ∷ list_characters kind (drop r.1 text.now)) }
     ensures order { IfSome result (λ r. (at < r.1) × (r.1 ≤ length text.now)) }
 {
-    match kind {
-        WordKind::Braced => next_character(text, at),
-        _ => {
-            let byte = *text.get(at)?;
-            Some((Character::Plain(byte), at + 1))
+    let byte = *text.get(at)?;
+    if kind == WordKind::Braced && byte == b'\\' {
+        if let Some(b'\n') = text.get(at + 1) {
+            return Some((Character::Escaped(b'\n'), at + 2));
         }
     }
+    Some((Character::Plain(byte), at + 1))
 }
 
 /// The offset of the first element.
