@@ -1,0 +1,11 @@
+pub mod CharacterLemmas
+pub mod GapLemmas
+pub mod EndLemmas
+pub mod ClosedLemmas
+pub mod WordLemmas
+pub mod StandLemmas
+pub mod ReadLemmas
+pub mod LineLemmas
+pub mod PartLemmas
+pub mod SplitLemmas
+pub mod ListLemmas

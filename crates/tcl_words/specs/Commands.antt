@@ -1,12 +1,13 @@
 -- The commands of a text.
-use Rattle.std.specs.Prelude.{◌≡◌, ℕ, ◌+◌, ◌≤◌, Bool, true, false, not, List, [], ◌∷◌, ◌++◌, length, if◌then◌else◌, Result, Ok, Err}
-use Rattle.std.specs.List.{list_all}
+use Rattle.std.specs.Prelude.{◌≡◌, ℕ, ◌+◌, ◌<◌, ◌≤◌, Bool, true, false, not, List, [], ◌∷◌, ◌++◌, length, if◌then◌else◌, Result, Ok, Err}
+use Rattle.std.specs.List.{list_all, AllByRecursion}
 use Rattle.tcl_words.specs.Characters.{characters, size, is_byte, is_gap, is_end, is_feed}
 use Rattle.tcl_words.specs.Words.{AreWords}
 use Rattle.tcl_words.specs.declared.characters.Character.{Character}
 use Rattle.tcl_words.specs.declared.characters.Scope.{Scope}
 use Rattle.tcl_words.specs.declared.characters.Scope.TheVariants.{Line, Brackets}
 use Rattle.tcl_words.specs.declared.words.Word.{Word}
+use Rattle.tcl_words.specs.declared.words.WordKind.TheVariants.{Bracket}
 use Rattle.tcl_words.specs.declared.words.TclFault.{TclFault}
 use Rattle.tcl_words.specs.declared.words.TclFault.TheVariants.{Syntax, NoMemory}
 
@@ -52,7 +53,7 @@ Splits text commands = AreCommands 0 (characters text) commands
 -- what each answer of `commands` says of the text
 abbrev pub IsCommandsAnswer : List ℕ → Result (List (List Word)) TclFault → Type 0
 IsCommandsAnswer text (Ok commands) = Splits text commands
-IsCommandsAnswer text (Err (Syntax at)) = ((commands : List (List Word)) → Splits text commands → ⊥) × (at ≤ length text)
+IsCommandsAnswer text (Err (Syntax at)) = (commands : List (List Word)) → Splits text commands → ⊥
 IsCommandsAnswer text (Err NoMemory) = Unit {0}
 
 -- the text of a word in brackets, which begins at this offset, is made of these words
@@ -62,5 +63,38 @@ AreBracketWords at text words = AreWords Brackets at (characters text) words
 -- what each answer of `bracket_words` says
 abbrev pub IsBracketAnswer : ℕ → List ℕ → Result (List Word) TclFault → Type 0
 IsBracketAnswer at text (Ok words) = AreBracketWords at text words
-IsBracketAnswer at text (Err (Syntax fault)) = ((words : List Word) → AreBracketWords at text words → ⊥) × (fault ≤ at + length text)
+IsBracketAnswer at text (Err (Syntax fault)) = (words : List Word) → AreBracketWords at text words → ⊥
 IsBracketAnswer at text (Err NoMemory) = Unit {0}
+
+-- the offset that a fault carries is at most this one
+abbrev pub IsFaultWithin : {X : Type 0} → ℕ → Result X TclFault → Type 0
+IsFaultWithin stop (Err (Syntax at)) = at ≤ stop
+IsFaultWithin stop (Err NoMemory) = Unit {0}
+IsFaultWithin stop (Ok _) = Unit {0}
+
+-- this holds, unless memory ran out
+abbrev pub UnlessMemory : {X : Type 0} → Result X TclFault → Type 0 → Type 0
+UnlessMemory (Err NoMemory) P = Unit {0}
+UnlessMemory (Err (Syntax _)) P = P
+UnlessMemory (Ok _) P = P
+
+abbrev pub IsSyntax : {X : Type 0} → Result X TclFault → Type 0
+IsSyntax (Err (Syntax _)) = Unit {0}
+IsSyntax (Err NoMemory) = ⊥
+IsSyntax (Ok _) = ⊥
+
+-- A word of a text that ends at this offset: it lies in the text, and where it stands in brackets, words stand in these.
+pub record IsWordOf (stop : ℕ) (word : Word) : Type 0 where
+  pub within : word.at + length word.text ≤ stop
+  pub brackets : word.kind ≡ Bracket → (words : List Word) × AreBracketWords (word.at + 1) word.text words
+
+-- words of a text
+pub record AreWordsOf (stop : ℕ) (words : List Word) : Type 0 where
+  pub count : length words ≤ stop
+  pub each : AllByRecursion (IsWordOf stop) words
+
+-- commands of a text, each with a word
+pub record AreCommandsOf (stop : ℕ) (commands : List (List Word)) : Type 0 where
+  pub count : length commands ≤ stop
+  pub named : AllByRecursion (λ words. 0 < length words) commands
+  pub each : AllByRecursion (AreWordsOf stop) commands

@@ -1,0 +1,13 @@
+use Rattle.std.proofs.Common.{◌≡◌, ◌≤◌, ◌-◌, length}
+use Rattle.tcl_words.specs.Scanning.{left, quoted_rest}
+use Rattle.tcl_words.proofs.ends.quoted_end.Given as goal
+
+abbrev pub invariant-loop-character : goal.invariant-loop-character
+invariant-loop-character l = record {
+  same : quoted_rest (left l.text l.end) ≡ quoted_rest (left l.text l.at);
+  from : l.at ≤ l.end;
+  within : l.end ≤ length l.text;
+}
+
+abbrev pub decreases-loop-character : goal.decreases-loop-character
+decreases-loop-character l = length l.text - l.end
