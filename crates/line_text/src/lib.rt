@@ -13,7 +13,7 @@ mod writing;
 
 pub use lines::{Line, next_line, section, text_end};
 pub use names::{counts, name};
-pub use numbers::{count, end, whole, word};
+pub use numbers::{count, end, whole, whole_number, word};
 pub use owned::{OwnedLine, owned_section};
 pub use parts::{next_field, next_row};
 pub use readings::Reading;

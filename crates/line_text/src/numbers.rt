@@ -33,10 +33,11 @@ fn natural(digits: &[u8]) -> Option<u64>
     Some(value)
 }
 
-/// The number that the field spells, or a number past all ranges on the same side of 0.
+/// The number that the field spells, an optional `-` and digits, or a number past 2^62 on the same side of 0 where it is
+/// past that; None where it spells none.
 #[inline]
 #[tactic(auto, unfolding(crate::specs::Numbers::whole_of))]
-fn clipped(field: &[u8]) -> Option<i64>
+pub fn whole_number(field: &[u8]) -> Option<i64>
     ensures { result ≡ option_map clipped (whole_of field.now) }
 {
     let Some((sign, digits)) = field.split_first() else {
@@ -63,7 +64,7 @@ pub fn whole(line: Reading<'_>, least: i64, most: i64) -> Option<(i64, Reading<'
     ensures on { IfSome result (λ r. GoesOn line.entry r.1) }
 {
     let (field, rest) = next_field(line.rest)?;
-    let number = clipped(field.bytes)?;
+    let number = whole_number(field.bytes)?;
     if least <= number && number <= most {
         return Some((
             number,

@@ -1,0 +1,9 @@
+pub mod Answers
+pub mod Words
+pub mod Lists
+pub mod Numbers
+pub mod Brackets
+pub mod Options
+pub mod Values
+pub mod Collecting
+pub mod Commands
