@@ -1,12 +1,13 @@
 -- A network from which walks were taken off.
-use Rattle.std.proofs.Common.{◌≡◌, ℕ, ℤ, ◌+◌, ◌≤ℤ◌, ◌⊎◌, arith, List, Option, sym, subst, ap, ◌∙◌, inl, inr}
+use Rattle.std.proofs.Common.{◌≡◌, ℕ, ℤ, ◌+◌, ◌-◌, ◌-ℤ◌, ◌≤ℤ◌, ◌⊎◌, arith, List, Option, sym, subst, ap, ◌∙◌, inl, inr}
 use Rattle.std.proofs.lemmas.Int.{ints}
 use Rattle.bud_base.specs.declared.problems.Problem.{Problem}
 use Rattle.residual.specs.Excesses.{AreExcesses}
 use Rattle.residual.specs.Networks.{Fits, Network, IsLawful}
 use Rattle.residual.specs.Balances.{HasNoExcess, HasRoom, total_start_flow, total_weight}
 use Rattle.residual.specs.Trims.{HasNoSurplus, total_limit}
-use Rattle.residual.specs.Walks.{AreWalksTaken, AreParted, HasWalk}
+use Rattle.bud_flow.specs.Sums.{sum_below, number_at}
+use Rattle.residual.specs.Walks.{AreWalksTaken, AreParted, flow_between, LoseAtMost, HasWalk}
 use Rattle.residual.proofs.Surplus.{total_limit-fits, total_start_flow-most, IsLawful-less}
 use Rattle.residual.proofs.Remains.{HasNoSurplus-parted, HasSurplus-walk}
 use Rattle.residual.specs.declared.arcs.Arc.{Arc}
@@ -53,3 +54,18 @@ weights-lent before net new p same trimmed fits =
     let P : Network → Type 0 = λ n. Fits n p in
     let limits : total_limit before ≡ total_weight p = total_limit-fits before p (subst P (sym same) fits) in
     omega (arith, ints, trimmed.starts, limits)
+
+-- what the starts' arcs carry together
+total_start_flow-between : (net : Network) (flows : List ℤ) → total_start_flow (record net { flows = flows }) ≡ flow_between (net.items + net.items) (net.items + net.items + net.starts) flows
+total_start_flow-between net flows =
+    let e : net.items + net.items + net.starts - (net.items + net.items) ≡ net.starts = omega arith in
+    ap (λ n. sum_below n (λ k. number_at flows (net.items + net.items + k))) (sym e)
+
+-- no arc loses more than the starts together
+pub loss-lent : (before net : Network) (flows told new : List ℤ) → before ≡ net → flows ≡ before.flows → new ≡ told
+    → LoseAtMost (before.items + before.items) (before.items + before.items + before.starts) flows told
+    → (arc : ℕ) → (number_at net.flows arc -ℤ number_at new arc) ≤ℤ (total_start_flow net -ℤ total_start_flow (record before { flows = new }))
+loss-lent before net flows told new same is_flows is_new lost arc =
+    let L : LoseAtMost (before.items + before.items) (before.items + before.items + before.starts) before.flows new = rw (is_new, ← is_flows) lost in
+    let P : Network → Type 0 = λ n. (number_at n.flows arc -ℤ number_at new arc) ≤ℤ (total_start_flow n -ℤ total_start_flow (record before { flows = new })) in
+    subst P same (omega (arith, ints, L arc, total_start_flow-between before before.flows, total_start_flow-between before new))

@@ -10,7 +10,7 @@ use Rattle.bud_flow.specs.Sums.{number_at, sum_below}
 use Rattle.bud_flow.proofs.SumLemmas.{sum_below-le}
 use Rattle.residual.specs.Arcs.{arc_at, CarryAll}
 use Rattle.residual.specs.Trims.{AreLess}
-use Rattle.residual.specs.Walks.{way_at, IsMarked, rank_of, rank_at, AreWays, HaveFlow, OnWalk, stay, walk, CarryOnWalk, AreTakenOff, AreWalksTaken, IsWalkTaken, IsOpenStart, IsLower, IsTakenAnswer, HasWalk}
+use Rattle.residual.specs.Walks.{way_at, IsMarked, rank_of, rank_at, AreWays, HaveFlow, OnWalk, stay, walk, CarryOnWalk, AreTakenOff, AreWalksTaken, IsWalkTaken, IsOpenStart, IsLower, IsTakenAnswer, flow_between, LoseAtMost, HasWalk}
 use Rattle.residual.proofs.Changes.{excess_of-set}
 use Rattle.residual.specs.declared.arcs.Arc.{Arc}
 use Rattle.residual.specs.declared.walks.Way.{Way}
@@ -118,6 +118,10 @@ nat_lt-no a b more = grind (arith, nat_tests)
 cond-least : (b : Bool) (amount : ℤ) → pos 0 ≤ℤ amount → pos 0 ≤ℤ cond b amount (pos 0)
 cond-least true amount least = least
 cond-least false amount least = omega (arith, ints)
+
+cond-most : (b : Bool) (amount : ℤ) → pos 0 ≤ℤ amount → cond b amount (pos 0) ≤ℤ amount
+cond-most true amount least = omega (arith, ints)
+cond-most false amount least = least
 
 cond-less : (b : Bool) (a : ℤ) → cond b (pos 0 -ℤ a) (pos 0) ≡ pos 0 -ℤ cond b a (pos 0)
 cond-less true a = refl
@@ -233,6 +237,20 @@ IsWalkTaken-whole arcs root first start old mid new ways count amount told are s
             = ap (λ a. cond ((arc_at arcs start).to.0 == x) a (pos 0)) is_told ∙ cond-less ((arc_at arcs start).to.0 == x) amount in
             omega (arith, ints, step, from_is, to_is, taken.excess x);
       };
+      once = λ j. elim (cases_eq j start) [
+        | inl same ↦ rw same (omega (arith, ints))
+        | inr differs ↦
+            omega (
+              arith,
+              ints,
+              here_is,
+              is_told,
+              start_kept,
+              other_is j differs,
+              taken.rest j,
+              cond-most (nat_lt (rank_at ways root) (rank_at ways (arc_at arcs j).from.0)) amount least,
+            )
+      ];
       lower = λ have. omega (arith, ints, here_is, is_told, positive have, start_kept);
     } in
     let P : List ℤ → Type 0 = λ fs. IsWalkTaken arcs first start ways old fs in
@@ -316,11 +334,8 @@ size_of-lower (pos a) (pos b) least lower = omega (arith, ints, lower)
 size_of-lower (pos a) (negsuc b) least lower = absurd (omega (arith, ints, lower))
 size_of-lower (negsuc a) b least lower = absurd (omega (arith, ints, least))
 
-abbrev pub starts_flow : ℕ → ℕ → List ℤ → ℤ
-starts_flow from to flows = sum_below (to - from) (λ k. number_at flows (from + k))
-
 pub IsLower-smaller : (arcs : List Arc) (ways : List (Option Way)) (from to : ℕ) (old new : List ℤ) → CarryAll arcs new → to ≤ length arcs → from ≤ to → AreLess old new → IsLower arcs ways from to old new
-    → size_of (starts_flow from to new) < size_of (starts_flow from to old)
+    → size_of (flow_between from to new) < size_of (flow_between from to old)
 IsLower-smaller arcs ways from to old new carried inside order less lower =
     let e : from + (lower.start - from) ≡ lower.start = omega (arith, lower.above) in
     let P : ℕ → Type 0 = λ k. number_at new k <ℤ number_at old k in
@@ -337,3 +352,31 @@ kept-more arcs first root from to count ways old mid new so_far marks have lower
       let Q : List ℤ → Type 0 = λ fs. IsOpenStart arcs fs ways lower.start in
       inr (record { ways = ways; count = count; marks = marks; flow = subst P same have; start = lower.start; above = lower.above; below = lower.below; open_start = subst Q same lower.was_open })
 ]
+
+-- ---- what arcs have lost
+sum_below-fallen : (n k : ℕ) (d : ℤ) (f g : ℕ → ℤ) → ((j : ℕ) → j < n → g j ≤ℤ f j) → k < n → (g k +ℤ d) ≤ℤ f k → (sum_below n g +ℤ d) ≤ℤ sum_below n f
+sum_below-fallen zero k d f g less within fallen = absurd (omega arith)
+sum_below-fallen (suc n) k d f g less within fallen = elim (cases_lt k n) [
+  | inl before ↦ omega (arith, ints, sum_below-fallen n k d f g (λ j below. less j (omega (arith, below))) before fallen, less n (omega arith))
+  | inr last ↦
+      let e : k ≡ n = omega (arith, within, last) in
+      let P : ℕ → Type 0 = λ m. (g m +ℤ d) ≤ℤ f m in
+      omega (arith, ints, sum_below-le n g f (λ j below. less j (omega (arith, below))), subst P e fallen)
+]
+
+pub LoseAtMost-none : (from to : ℕ) (flows : List ℤ) → LoseAtMost from to flows flows
+LoseAtMost-none from to flows j = omega (arith, ints)
+
+pub LoseAtMost-more : (from to : ℕ) (old mid new : List ℤ) → LoseAtMost from to old mid → LoseAtMost from to mid new → LoseAtMost from to old new
+LoseAtMost-more from to old mid new one two j = omega (arith, ints, one j, two j)
+
+pub LoseAtMost-walk : (arcs : List Arc) (first start from to : ℕ) (ways : List (Option Way)) (old new : List ℤ) → from ≤ start → start < to → IsWalkTaken arcs first start ways old new
+    → LoseAtMost from to old new
+LoseAtMost-walk arcs first start from to ways old new above below walked j =
+    let e : from + (start - from) ≡ start = omega (arith, above) in
+    let P : ℕ → Type 0 = λ k. (number_at new k +ℤ (number_at old start -ℤ number_at new start)) ≤ℤ number_at old k in
+    let at_start : P start = omega (arith, ints) in
+    let fallen : (flow_between from to new +ℤ (number_at old start -ℤ number_at new start)) ≤ℤ flow_between from to old =
+    sum_below-fallen (to - from) (start - from) (number_at old start -ℤ number_at new start) (λ k. number_at old (from + k)) (λ k. number_at new (from + k)) (λ k _. walked.taken.less.less (from + k))
+    (omega (arith, above, below)) (subst P (sym e) at_start) in
+    omega (arith, ints, fallen, walked.once j)

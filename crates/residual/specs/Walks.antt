@@ -1,6 +1,6 @@
 -- Walks over arcs with flow, from nodes to the root.
-use Rattle.std.specs.Prelude.{◌≡◌, ◌≢◌, ◌==◌, Bool, true, false, ℕ, ℤ, pos, ◌+◌, ◌<◌, ◌≤◌, ◌+ℤ◌, ◌-ℤ◌, ◌<ℤ◌, ◌≤ℤ◌, ◌⊎◌, Option, Some, None, List, [], ◌∷◌, length, slice_index_or, nat_lt, if◌then◌else◌}
-use Rattle.bud_flow.specs.Sums.{number_at}
+use Rattle.std.specs.Prelude.{◌≡◌, ◌≢◌, ◌==◌, Bool, true, false, ℕ, ℤ, pos, ◌+◌, ◌-◌, ◌<◌, ◌≤◌, ◌+ℤ◌, ◌-ℤ◌, ◌<ℤ◌, ◌≤ℤ◌, ◌⊎◌, Option, Some, None, List, [], ◌∷◌, length, slice_index_or, nat_lt, if◌then◌else◌}
+use Rattle.bud_flow.specs.Sums.{sum_below, number_at}
 use Rattle.residual.specs.Arcs.{arc_at}
 use Rattle.residual.specs.Excesses.{excess_of}
 use Rattle.residual.specs.Trims.{AreLess}
@@ -84,7 +84,16 @@ pub record AreWalksTaken (arcs : List Arc) (first : ℕ) (old new : List ℤ) : 
 -- the walk of a start was taken off, and where all marks have flow there was some
 pub record IsWalkTaken (arcs : List Arc) (first start : ℕ) (ways : List (Option Way)) (old new : List ℤ) : Type 0 where
   pub taken : AreWalksTaken arcs first old new
+  pub once : (j : ℕ) → (number_at old j -ℤ number_at new j) ≤ℤ (number_at old start -ℤ number_at new start)
   pub lower : HaveFlow old ways → number_at new start <ℤ number_at old start
+
+-- the flows of the arcs between two numbers together
+abbrev pub flow_between : ℕ → ℕ → List ℤ → ℤ
+flow_between from to flows = sum_below (to - from) (λ k. number_at flows (from + k))
+
+-- no arc has lost more than the arcs between two numbers together
+abbrev pub LoseAtMost : ℕ → ℕ → List ℤ → List ℤ → Type 0
+LoseAtMost from to old new = (j : ℕ) → (number_at old j -ℤ number_at new j) ≤ℤ (flow_between from to old -ℤ flow_between from to new)
 
 -- the arc of a start with flow at a marked node
 pub record IsOpenStart (arcs : List Arc) (flows : List ℤ) (ways : List (Option Way)) (start : ℕ) : Type 0 where

@@ -1,4 +1,4 @@
-ghost use Rattle.std.specs.Prelude.{◌≡◌, ◌<◌, ◌+◌, ◌≤ℤ◌, ◌+ℤ◌, ◌-ℤ◌, ◌^◌, ◌↔◌, pos, false, true, slice_set, IsTrue, IfOk};
+ghost use Rattle.std.specs.Prelude.{◌≡◌, ℕ, ◌<◌, ◌+◌, ◌≤ℤ◌, ◌+ℤ◌, ◌-ℤ◌, ◌^◌, ◌↔◌, pos, false, true, slice_set, IsTrue, IfOk};
 ghost use Rattle.bud_flow.specs.Sums.{number_at};
 
 use crate::arcs::{
@@ -208,6 +208,7 @@ impl Net {
         ensures same { self.new ≡ record self.old { flows = self.new.flows } }
         ensures less { AreLess self.old.flows self.new.flows }
         ensures limited { KeepsLimited self.old self.new.flows }
+        ensures loss { (arc : ℕ) → (number_at self.old.flows arc -ℤ number_at self.new.flows arc) ≤ℤ (total_start_flow self.old -ℤ total_start_flow self.new) }
         ensures balanced { HasNoExcess self.new }
         ensures none { HasNoSurplus self.new }
         ensures kept { HasNoSurplus self.old → self.new.flows ≡ self.old.flows }

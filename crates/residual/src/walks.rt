@@ -1,7 +1,7 @@
 ghost use Rattle.std.specs.Prelude.{◌≡◌, ◌≢◌, ℕ, ◌+◌, ◌<◌, ◌≤◌, ◌^◌, ◌<ℤ◌, ◌≤ℤ◌, ◌⊎◌, pos, false, None, length, IsTrue, IfOk};
 ghost use Rattle.bud_flow.specs.Sums.{number_at};
 ghost use Rattle.residual.specs.Arcs.{arc_at, CarryAll, JoinBelow};
-ghost use Rattle.residual.specs.Walks.{way_at, IsMarked, AreWays, HaveFlow, CarryOnWalk, AreTakenOff, IsWalkTaken, AreWalksTaken, IsTakenAnswer, IsOpenStart, IsCovered, LeadsOn, IsSpreading, HasWalk, AreParted, unmarked_count};
+ghost use Rattle.residual.specs.Walks.{way_at, IsMarked, AreWays, HaveFlow, CarryOnWalk, AreTakenOff, IsWalkTaken, AreWalksTaken, IsTakenAnswer, IsOpenStart, IsCovered, LeadsOn, IsSpreading, LoseAtMost, HasWalk, AreParted, unmarked_count};
 
 use crate::arcs::{Arc, add_at};
 use bud_base::NodeId;
@@ -176,6 +176,7 @@ fn take_walks(
     requires order { from ≤ to }
     requires below { to ≤ length arcs.now }
     ensures taken { AreWalksTaken arcs.now first flows.old flows.new }
+    ensures loss { LoseAtMost from to flows.old flows.new }
     ensures answer { IsTakenAnswer arcs.now ways.now from to flows.old flows.new result }
 {
     let mut is_taken = false;
@@ -284,6 +285,7 @@ pub fn trim_flows(
     requires order { from ≤ to }
     requires below { to ≤ length arcs.now }
     ensures taken { AreWalksTaken arcs.now first flows.old flows.new }
+    ensures loss { LoseAtMost from to flows.old flows.new }
     ensures kept { (flows.new ≡ flows.old) ⊎ HasWalk arcs.now flows.old first root.0 from to }
     ensures parted { AreParted arcs.now flows.new first root.0 from to ways.new }
     ensures size { length ways.new ≡ length ways.old }

@@ -5,7 +5,7 @@ use Rattle.residual.specs.Arcs.{arc_at}
 use Rattle.residual.specs.Networks.{Network}
 use Rattle.residual.specs.Insides.{network_of}
 use Rattle.residual.proofs.Surplus.{start-from_root}
-use Rattle.residual.proofs.Trimming.{IsTrimmed, IsTrimmed-lent, AreExcesses-walks, kept-lent, weights-lent}
+use Rattle.residual.proofs.Trimming.{IsTrimmed, IsTrimmed-lent, AreExcesses-walks, kept-lent, loss-lent, weights-lent}
 use Rattle.residual.specs.declared.arcs.Arc.{Arc}
 use Rattle.residual.proofs.nets.Net.trim.Goals as goal
 
@@ -39,6 +39,11 @@ returns-clause-none c =
     (IsTrimmed-lent (network_of c.self.inside) c.args.self.now c.deref.result.now c.deref_mut.result.now c.trim_flows.new.flows (with_items c.self.inside.flows c.trim_flows.new.flows).items c.trim_flows.new.ways
     c.self.view_is c.self.invariant.lawful c.requires.balanced c.requires.room c.deref.ensures.value c.deref_mut.ensures.value
     (with_items_is c.self.inside.flows c.trim_flows.new.flows (c.trim_flows.auto.flows ∙ c.deref_mut.ensures.len)) c.trim_flows.ensures.taken c.trim_flows.ensures.parted).none
+
+pub returns-clause-loss : goal.returns-clause-loss
+returns-clause-loss c =
+    loss-lent (network_of c.self.inside) c.args.self.now c.deref_mut.result.now c.trim_flows.new.flows (with_items c.self.inside.flows c.trim_flows.new.flows).items c.self.view_is c.deref_mut.ensures.value
+    (with_items_is c.self.inside.flows c.trim_flows.new.flows (c.trim_flows.auto.flows ∙ c.deref_mut.ensures.len)) c.trim_flows.ensures.loss
 
 pub returns-clause-kept : goal.returns-clause-kept
 returns-clause-kept c =
