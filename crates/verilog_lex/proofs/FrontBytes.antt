@@ -65,3 +65,15 @@ first_rest c (x ∷ xs) found = ap (λ b. b ∷ xs) (eqb-true x c found)
 pub begins_taken : (p : ℕ → Bool) (n : ℕ) (xs : List ℕ) → begins p (take (n + 1) xs) ≡ begins p xs
 begins_taken p n [] = ap (begins p) (take_nil (n + 1))
 begins_taken p n (x ∷ xs) = ap (begins p) (take_front n x xs)
+
+-- a run without its first bytes
+pub run_behind : (p : ℕ → Bool) (n : ℕ) (xs : List ℕ) → n ≤ prefix_len p xs → prefix_len p (drop n xs) ≡ prefix_len p xs - n
+run_behind p zero xs within = omega arith
+run_behind p (suc n) [] within = absurd (omega arith)
+run_behind p (suc n) (x ∷ xs) within =
+    by_test (p x)
+    (λ passes.
+    let more : suc n ≤ 1 + prefix_len p xs = rw passes at within in
+    let others : prefix_len p (drop n xs) ≡ prefix_len p xs - n = run_behind p n xs (omega arith) in
+    rw passes (omega arith))
+    (λ fails. absurd (let none : suc n ≤ 0 = rw fails at within in omega arith))

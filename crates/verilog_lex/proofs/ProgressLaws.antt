@@ -1,9 +1,12 @@
 -- One step further along a text.
-use Rattle.std.proofs.Common.{◌≡◌, ℕ, ◌+◌, ◌≤◌, List, [], ◌∷◌, ◌++◌, length, drop, sym, ap, ◌∙◌, subst, arith, append_assoc, length-append, length-drop}
+use Rattle.std.proofs.Common.{◌≡◌, ℕ, ◌+◌, ◌-◌, ◌≤◌, List, [], ◌∷◌, ◌++◌, length, drop, sym, ap, ◌∙◌, subst, arith, append_assoc, length-append, length-drop}
+use Rattle.std.specs.Char.{is_ascii_graphic}
+use Rattle.std.specs.List.{All, prefix_len}
 use Rattle.std.proofs.lemmas.List.{append-nil, drop-drop}
 use Rattle.std.proofs.lemmas.List.Elements.{All-append, All-cons, All-nil}
+use Rattle.verilog_lex.proofs.Tests.{run_behind}
 use Rattle.verilog_lex.specs.Fronts.{front_of}
-use Rattle.verilog_lex.specs.Progress.{IsSoFar}
+use Rattle.verilog_lex.specs.Progress.{IsKnown, IsSoFar}
 use Rattle.verilog_lex.specs.Tokens.{AreTokens, IsRefused, IsWithin}
 use Rattle.verilog_lex.specs.Tokens.AreTokens.{done, skip, token}
 use Rattle.verilog_lex.specs.Tokens.IsRefused.{here, skip as skip_refused, token as token_refused}
@@ -17,6 +20,16 @@ behind_front text at b n behind rest = sym (drop-drop n at text) ∙ ap (drop n)
 
 room : (text : List ℕ) (at b : ℕ) (behind : List ℕ) → drop at text ≡ b ∷ behind → length behind + 1 + at ≤ length text
 room text at b behind rest = (let e = length-drop at text in let f = ap length rest in omega arith)
+
+-- printable bytes that are known at the front are known further on
+pub known_on : (text : List ℕ) (at b n p : ℕ) (behind : List ℕ) → drop at text ≡ b ∷ behind → IsKnown p (b ∷ behind) → IsKnown (p - n) (drop (at + n) text)
+known_on text at b n p behind rest known more =
+    let is : p ≡ prefix_len is_ascii_graphic (b ∷ behind) = known (omega arith) in
+    let left : prefix_len is_ascii_graphic (drop n (b ∷ behind)) ≡ prefix_len is_ascii_graphic (b ∷ behind) - n = run_behind is_ascii_graphic n (b ∷ behind) (omega arith) in
+    ap (λ k. k - n) is ∙ sym left ∙ ap (prefix_len is_ascii_graphic) (sym (behind_front text at b n behind rest))
+
+pub known_here : (text : List ℕ) (at b p : ℕ) (behind : List ℕ) → drop at text ≡ b ∷ behind → IsKnown p (drop at text) → IsKnown p (b ∷ behind)
+known_here text at b p behind rest known = (let P : List ℕ → Type 0 = λ left. IsKnown p left in subst P rest known)
 
 pub skipped_on : (text : List ℕ) (found : List Token) (at b n : ℕ) (behind : List ℕ) → drop at text ≡ b ∷ behind → Skipped n ≡ front_of b behind →
     (1 ≤ n) × (n ≤ length behind + 1) → IsSoFar text found at → IsSoFar text found (at + n)

@@ -4,7 +4,7 @@ use Rattle.std.specs.Char.{is_ascii, is_ascii_digit, is_ascii_graphic}
 use Rattle.std.specs.List.{prefix_len, list_all, slice_range}
 use Rattle.std.proofs.lemmas.Bool.{and_parts, eqb-true}
 use Rattle.std.proofs.lemmas.Bool.Decides.{nat_tests}
-use Rattle.std.proofs.lemmas.List.{append-nil, length-take-le, drop-drop}
+use Rattle.std.proofs.lemmas.List.{append-nil, length-take, length-take-le, take_all, drop-drop}
 use Rattle.std.proofs.lemmas.List.Folds.{length-prefix_len, drop_split}
 use Rattle.verilog_lex.specs.Fronts.{is_white, begins_name, is_of_name, is_of_line, is_of_string, begins, before_pair, block_comment, attribute, quoted, escaped, sign_front, front_of}
 use Rattle.verilog_lex.specs.Kinds.{bytes_of}
@@ -68,11 +68,13 @@ fair_block bs (Some n) found = rw (taken_pair 47 42 42 47 n bs found) (passed_bl
 fair_attribute : (bs : List ℕ) (o : Option ℕ) → before_pair 42 41 bs ≡ o → IsFair (40 ∷ (42 ∷ bs)) (attribute bs o)
 fair_attribute bs None found = tt
 fair_attribute bs (Some n) found =
-    by_test (nat_lt (prefix_len is_ascii bs) n)
+    by_test (nat_lt (prefix_len is_ascii (take n bs)) n)
     (λ high. rw high tt)
     (λ low.
-    let reaches : n ≤ prefix_len is_ascii bs = grind (arith, nat_tests) in
-    rw low (rw (taken_pair 40 42 42 41 n bs found) (passed_attribute (take n bs) (all_of_run is_ascii n bs reaches) (pair_told 42 41 n bs found))))
+    let reaches : n ≤ prefix_len is_ascii (take n bs) = grind (arith, nat_tests) in
+    let all : list_all is_ascii (take n (take n bs)) ≡ true = all_of_run is_ascii n (take n bs) reaches in
+    let same : take n (take n bs) ≡ take n bs = take_all n (take n bs) (let e = length-take n bs in omega arith) in
+    rw low (rw (taken_pair 40 42 42 41 n bs found) (passed_attribute (take n bs) (rw same at all) (pair_told 42 41 n bs found))))
 
 -- a double quote
 fair_quoted : (behind : List ℕ) → IsFair (34 ∷ behind) (quoted behind)

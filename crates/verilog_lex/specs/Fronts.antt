@@ -1,5 +1,5 @@
 -- What stands at the front of a Verilog text: what is skipped, a token, or nothing that may stand there (IEEE 1364).
-use Rattle.std.specs.Prelude.{ℕ, ◌+◌, ◌==◌, ◌||◌, ◌&&◌, not, nat_lt, Bool, false, List, [], ◌∷◌, drop, Option, Some, None, if◌then◌else◌}
+use Rattle.std.specs.Prelude.{ℕ, ◌+◌, ◌==◌, ◌||◌, ◌&&◌, not, nat_lt, Bool, false, List, [], ◌∷◌, take, drop, Option, Some, None, if◌then◌else◌}
 use Rattle.std.specs.Char.{is_ascii, is_ascii_alphabetic, is_ascii_alphanumeric, is_ascii_digit, is_ascii_graphic}
 use Rattle.std.specs.List.{prefix_len}
 use Rattle.std.specs.Option.{option_map}
@@ -45,7 +45,8 @@ block_comment (Some n) = Skipped (n + 4)
 -- `(*` with what is behind it, up to the first `*)`; no byte past 127 may stand in it
 abbrev pub attribute : List ℕ → Option ℕ → Front
 attribute behind None = Refused 0
-attribute behind (Some n) = if nat_lt (prefix_len is_ascii behind) n then Refused (prefix_len is_ascii behind + 2) else Skipped (n + 4)
+attribute behind (Some n) =
+    if nat_lt (prefix_len is_ascii (take n behind)) n then Refused (prefix_len is_ascii (take n behind) + 2) else Skipped (n + 4)
 
 -- a double quote with what is behind it, up to the next one on the line
 abbrev pub quoted : List ℕ → Front

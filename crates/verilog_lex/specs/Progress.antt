@@ -1,8 +1,13 @@
 -- What is known of a text while its tokens are sought.
-use Rattle.std.specs.Prelude.{ℕ, ◌≤◌, List, ◌++◌, drop, length}
-use Rattle.std.specs.List.{All}
+use Rattle.std.specs.Prelude.{◌≡◌, ℕ, ◌<◌, ◌≤◌, List, ◌++◌, drop, length}
+use Rattle.std.specs.Char.{is_ascii_graphic}
+use Rattle.std.specs.List.{All, prefix_len}
 use Rattle.verilog_lex.specs.Tokens.{AreTokens, IsRefused, IsWithin}
 use Rattle.verilog_lex.specs.declared.kinds.Token.{Token}
+
+-- so many printable bytes stand at the front, or it isn't known how many
+abbrev pub IsKnown : ℕ → List ℕ → Type 0
+IsKnown n text = 0 < n → n ≡ prefix_len is_ascii_graphic text
 
 -- The tokens up to this offset are found: with those of the rest they are the tokens of the text, and where the rest is
 -- refused, so is the text.

@@ -1,4 +1,5 @@
 ghost use Rattle.std.specs.Prelude.{◌≡◌, ◌==◌, ◌+◌, ◌<◌, ◌≤◌, ◌^◌, length, drop, IfSome};
+ghost use Rattle.std.specs.Char.{is_ascii_graphic};
 ghost use Rattle.std.specs.List.{prefix_len};
 ghost use Rattle.verilog_lex.specs.Fronts.{begins, before_pair, block_comment, attribute, quoted, escaped, sign_front, front_of};
 ghost use Rattle.verilog_lex.specs.Classes.{passes, IsFrontWithin};
@@ -72,7 +73,7 @@ fn attribute(behind: &[u8]) -> Front
 {
     match before_pair(b'*', b')', behind) {
         Some(length) => {
-            let ascii = run_length(Class::Ascii, behind);
+            let ascii = run_length(Class::Ascii, &behind[..length]);
             if ascii < length {
                 return Front::Refused(ascii + 2);
             }
@@ -96,25 +97,27 @@ fn quoted(behind: &[u8]) -> Front
     }
 }
 
-/// What a backslash is, by what stands behind it.
-fn escaped(behind: &[u8]) -> Front
-    requires { length behind.now + 1 < 2 ^ 63 }
+/// What a backslash is, by what stands behind it, first of all so many printable bytes.
+fn escaped(behind: &[u8], printable: usize) -> Front
+    requires size { length behind.now + 1 < 2 ^ 63 }
+    requires printable { printable ≡ prefix_len is_ascii_graphic behind.now }
     ensures front { result ≡ escaped behind.now }
     ensures within { IsFrontWithin (length behind.now + 1) result }
 {
-    let length = run_length(Class::Graphic, behind);
-    if 0 < length && begins_white(&behind[length..]) {
-        Front::Found(Kind::Escaped, length + 1)
+    if 0 < printable && begins_white(&behind[printable..]) {
+        Front::Found(Kind::Escaped, printable + 1)
     } else {
         Front::Found(Kind::Sign, 1)
     }
 }
 
-/// What stands at the front of a text with this first byte and these behind it.
+/// What stands at the front of a text with this first byte and these behind it. Where the first is a backslash, so many
+/// printable bytes stand there with it.
 #[inline]
 #[tactic(auto, unfolding(crate::specs::Fronts::front_of))]
-pub fn front_of(first: u8, behind: &[u8]) -> Front
-    requires { length behind.now + 1 < 2 ^ 63 }
+pub fn front_of(first: u8, behind: &[u8], printable: usize) -> Front
+    requires size { length behind.now + 1 < 2 ^ 63 }
+    requires printable { first ≡ 92 → printable ≡ prefix_len is_ascii_graphic behind.now + 1 }
     ensures front { result ≡ front_of first behind.now }
     ensures within { IsFrontWithin (length behind.now + 1) result }
 {
@@ -127,13 +130,14 @@ pub fn front_of(first: u8, behind: &[u8]) -> Front
     if first.is_ascii_digit() {
         return Front::Found(Kind::Number, run_length(Class::Digit, behind) + 1);
     }
-    sign_front(first, behind)
+    sign_front(first, behind, printable)
 }
 
 /// The same where the first byte is none of an identifier, white space or a digit.
 #[tactic(auto, unfolding(crate::specs::Fronts::sign_front))]
-fn sign_front(first: u8, behind: &[u8]) -> Front
-    requires { length behind.now + 1 < 2 ^ 63 }
+fn sign_front(first: u8, behind: &[u8], printable: usize) -> Front
+    requires size { length behind.now + 1 < 2 ^ 63 }
+    requires printable { first ≡ 92 → printable ≡ prefix_len is_ascii_graphic behind.now + 1 }
     ensures front { result ≡ sign_front first behind.now }
     ensures within { IsFrontWithin (length behind.now + 1) result }
 {
@@ -150,7 +154,7 @@ fn sign_front(first: u8, behind: &[u8]) -> Front
         return quoted(behind);
     }
     if first == b'\\' {
-        return escaped(behind);
+        return escaped(behind, printable - 1);
     }
     if passes(Class::Graphic, first) {
         return Front::Found(Kind::Sign, 1);

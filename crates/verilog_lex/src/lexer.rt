@@ -1,12 +1,30 @@
-ghost use Rattle.std.specs.Prelude.{◌≡◌, ◌^◌, ◌<◌, ◌≤◌, ◌+◌, ◌∷◌, ◌++◌, [], ℕ, List, length, drop, IfOk, OnOk, OnErr};
-ghost use Rattle.std.specs.List.{All};
+ghost use Rattle.std.specs.Prelude.{◌≡◌, ◌^◌, ◌<◌, ◌≤◌, ◌+◌, ◌-◌, ◌∷◌, ◌++◌, [], ℕ, List, length, drop, IfOk, OnOk, OnErr};
+ghost use Rattle.std.specs.Char.{is_ascii_graphic};
+ghost use Rattle.std.specs.List.{All, prefix_len};
+ghost use Rattle.verilog_lex.specs.Progress.{IsKnown};
 ghost use Rattle.verilog_lex.specs.Spelling.{StandIn};
 ghost use Rattle.verilog_lex.specs.Tokens.{AreTokens, IsRefused, IsTokensAnswer, UnlessMemory, IsSyntax, IsFaultWithin, IsWithin};
 ghost use Rattle.verilog_lex.specs.declared.kinds.Token.{Token};
 
+use crate::classes::{Class, run_length};
 use crate::fronts::{Front, front_of};
 use crate::kinds::{LexFault, Token, TokenList};
 use std::alloc::Global;
+
+/// How many printable bytes stand at the front, where it is a backslash; else what is known, or 0. So the bytes behind
+/// several backslashes in a row are counted once.
+#[inline]
+fn printable_front(first: u8, behind: &[u8], known: usize) -> usize
+    requires size { length behind.now + 1 < 2 ^ 63 }
+    requires known { IsKnown known (first ∷ behind.now) }
+    ensures known { IsKnown result (first ∷ behind.now) }
+    ensures backslash { first ≡ 92 → result ≡ prefix_len is_ascii_graphic behind.now + 1 }
+{
+    if first == b'\\' && known == 0 {
+        return run_length(Class::Graphic, behind) + 1;
+    }
+    known
+}
 
 /// The tokens of the text, as `tokens` finds them.
 fn find_tokens(alloc: Global, text: &[u8]) -> Result<TokenList, LexFault>
@@ -18,14 +36,21 @@ fn find_tokens(alloc: Global, text: &[u8]) -> Result<TokenList, LexFault>
 {
     let mut found = Vec::new(alloc);
     let mut at = 0;
+    // How many printable bytes stand at the front; 0 where that isn't known.
+    let mut printable = 0;
     while let Some((first, behind)) = text[at..].split_first() {
-        match front_of(*first, behind) {
-            Front::Skipped(len) => at += len,
+        printable = printable_front(*first, behind, printable);
+        match front_of(*first, behind, printable) {
+            Front::Skipped(len) => {
+                at += len;
+                printable = printable.saturating_sub(len);
+            }
             Front::Found(kind, len) => {
                 if found.push(Token { kind, at, len }).is_err() {
                     return Err(LexFault::NoMemory);
                 }
                 at += len;
+                printable = printable.saturating_sub(len);
             }
             Front::Refused(len) => return Err(LexFault::Syntax(at + len)),
         }

@@ -85,6 +85,12 @@ fn escaped_names(rt: HostRuntime) {
     has(&rt, alloc, b"\\a\\b//c\t", &[escaped(0, 7)]);
     has(&rt, alloc, b"\\ x", &[sign(0), name(2, 1)]);
     has(&rt, alloc, b"\\x", &[sign(0), name(1, 1)]);
+    has(
+        &rt,
+        alloc,
+        b"\\a\\\\b",
+        &[sign(0), name(1, 1), sign(2), sign(3), name(4, 1)],
+    );
 }
 
 #[test]
