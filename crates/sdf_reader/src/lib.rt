@@ -16,6 +16,8 @@ mod reader;
 mod rows;
 mod said;
 mod settings;
+#[cfg(test)]
+mod tests;
 mod values;
 
 pub use faults::SdfFault;
