@@ -4,3 +4,5 @@ pub mod NumberLemmas
 pub mod NestLemmas
 pub mod ValueLemmas
 pub mod FileLaws
+pub mod ListLaws
+pub mod NameLaws

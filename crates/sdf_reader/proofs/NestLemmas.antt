@@ -27,7 +27,7 @@ unfolding closed
 list_none zero all is = rw is refl
 list_none (suc depth) all is = rw is refl
 
-open_apart : (kind : Kind) → is_close kind ≡ true → is_open kind ≡ false
+pub open_apart : (kind : Kind) → is_close kind ≡ true → is_open kind ≡ false
 open_apart Open h = absurd (cc)
 open_apart Close h = refl
 open_apart Quoted h = absurd (cc)

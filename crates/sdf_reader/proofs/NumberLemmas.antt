@@ -16,7 +16,7 @@ use Rattle.text_scan.proofs.ScanLemmas.{scanned_begins}
 use Rattle.text_scan.proofs.Binds.{by_test}
 use Rattle.sdf_reader.specs.Numbers.{is_nil, is_number, rounded_up, amount, size, in_range}
 
-ten_some : (k : ℕ) → 1 ≤ 10 ^ k
+pub ten_some : (k : ℕ) → 1 ≤ 10 ^ k
 ten_some zero = omega arith
 ten_some (suc k) = rw pow-suc (let one = ten_some k in omega arith)
 
@@ -30,7 +30,7 @@ quotient_down n scale one =
     let sum = div-add-mod n scale in
     (omega arith, omega arith)
 
-rounded_up_is : (negative : Bool) (n scale : ℕ) → 1 ≤ scale → IsRounded Up (signed negative n) scale (rounded_up negative n scale)
+pub rounded_up_is : (negative : Bool) (n scale : ℕ) → 1 ≤ scale → IsRounded Up (signed negative n) scale (rounded_up negative n scale)
 rounded_up_is true n scale one = rounded_by_sign Up true n scale (n / scale) (quotient_down n scale one)
 rounded_up_is false n scale one = rounded_by_sign Up false n scale ((n + (scale - 1)) / scale) (quotient_up n scale one)
 

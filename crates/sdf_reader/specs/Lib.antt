@@ -16,3 +16,5 @@ pub mod Settings
 pub mod LeftOut
 pub mod Files
 pub mod Answers
+pub mod Lists
+pub mod NameForms

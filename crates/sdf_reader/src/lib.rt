@@ -7,6 +7,7 @@ mod contexts;
 mod entries;
 mod faults;
 mod headers;
+mod laws;
 mod left_out;
 mod marks;
 mod names;
@@ -16,7 +17,13 @@ mod reader;
 mod rows;
 mod said;
 mod settings;
+#[cfg(test)]
+mod tests;
 mod values;
 
 pub use faults::SdfFault;
-pub use reader::{one_value, read_sdf};
+pub use laws::{
+    all_repetitions, lists_are_balanced, names_have_their_form, numbers_are_decimals, one_value,
+    repetitions,
+};
+pub use reader::read_sdf;

@@ -126,10 +126,3 @@ pub fn read_sdf(alloc: Global, text: &[u8]) -> Result<SdfFile, SdfFault>
 {
     read_in_ranges(alloc, text)
 }
-
-/// A text has at most one value, and at most one least breach.
-pub fn one_value()
-    ensures value { (text : List ℕ) (a b : SdfFile) → Reads text a → Reads text b → a ≡ b }
-    ensures breach { (text : List ℕ) (a b : ℕ) → IsBreached text a → IsBreached text b → a ≡ b }
-    ensures apart { (text : List ℕ) (value : SdfFile) (at : ℕ) → Reads text value → IsBreached text at → ⊥ }
-{}

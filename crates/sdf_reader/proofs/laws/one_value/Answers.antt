@@ -1,7 +1,7 @@
 use Rattle.std.proofs.Common.{None, Some}
 use Rattle.std.proofs.lemmas.Option.{same_Some}
 use Rattle.sdf_reader.proofs.FileLaws.{one_reading}
-use Rattle.sdf_reader.proofs.reader.one_value.Goals as goal
+use Rattle.sdf_reader.proofs.laws.one_value.Goals as goal
 
 pub returns-clause-value : goal.returns-clause-value
 returns-clause-value c = λ text a b first second. (one_reading text a b None None first second).0
