@@ -1,4 +1,4 @@
-pub mod FrontBytes
+pub mod Bytes
 pub mod FrontLemmas
 pub mod PairLaws
 pub mod ProgressLaws
