@@ -1,4 +1,4 @@
-pub mod Tests
+pub mod Bytes
 pub mod FrontLemmas
 pub mod PairLaws
 pub mod ProgressLaws

@@ -3,7 +3,7 @@ use Rattle.std.proofs.Common.{◌≡◌, ℕ, ◌+◌, ◌≤◌, ◌==◌, ◌&
 use Rattle.std.specs.Option.{option_map}
 use Rattle.std.proofs.lemmas.Bool.{and_parts, eqb-true}
 use Rattle.verilog_lex.specs.Fronts.{begins, before_pair}
-use Rattle.verilog_lex.proofs.Tests.{by_test, take_front, first_is, begins_taken}
+use Rattle.verilog_lex.proofs.Bytes.{by_test, take_front, first_is, begins_taken}
 
 -- it is the front, or stands behind it
 by_place : {P : Type 0} (x y b n : ℕ) (bs : List ℕ) → before_pair x y (b ∷ bs) ≡ Some n →

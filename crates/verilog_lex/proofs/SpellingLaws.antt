@@ -21,7 +21,7 @@ use Rattle.verilog_lex.specs.declared.kinds.Kind.TheVariants.{Name, Escaped, Num
 use Rattle.verilog_lex.specs.declared.kinds.Token.{Token}
 use Rattle.verilog_lex.specs.declared.kinds.LexFault.{LexFault}
 use Rattle.verilog_lex.proofs.PairLaws.{pair_ends, pair_kept, pair_within}
-use Rattle.verilog_lex.proofs.Tests.{by_test, take_front, take_sum, slice_is, slice_more, slice_none, all_of_run, all_run, first_is, first_rest}
+use Rattle.verilog_lex.proofs.Bytes.{by_test, take_front, take_sum, slice_is, slice_more, slice_none, all_of_run, all_run, first_is, first_rest}
 
 -- what stands at the front of a text, told by its bytes: what is skipped and what is a token are as they should be
 abbrev IsFair : List ℕ → Front → Type 0

@@ -3,7 +3,7 @@ use Rattle.std.proofs.Common.{◌≡◌, ℕ, zero, suc, ◌≤◌, ◌&&◌, na
 use Rattle.std.specs.Str.{bytes_eq}
 use Rattle.verilog_lex.specs.Kinds.{bytes_of, is_word}
 use Rattle.verilog_lex.specs.declared.kinds.Token.{Token}
-use Rattle.verilog_lex.proofs.Tests.{by_test}
+use Rattle.verilog_lex.proofs.Bytes.{by_test}
 use Rattle.verilog_words.specs.Reserved.{is_skipped}
 use Rattle.verilog_words.specs.Outside.{Turn, directive, behind_word, end_of_line, from_offset, at_directive, turn_at, Piece, Outside}
 use Rattle.verilog_words.specs.Outside.Turn.{passes, keeps}
