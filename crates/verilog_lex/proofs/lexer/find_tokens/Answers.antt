@@ -1,6 +1,6 @@
 use Rattle.std.proofs.Common.{◌≡◌, ◌∷◌, [], ◌++◌, drop, sym, ◌∙◌, rules}
 use Rattle.std.proofs.lemmas.List.{take_rest, nil_from_length}
-use Rattle.verilog_lex.proofs.ProgressLaws.{known_here, known_on, skipped_on, found_on, refused_here, all_found}
+use Rattle.verilog_lex.proofs.ProgressLaws.{known_on, skipped_on, found_on, refused_here, all_found}
 use Rattle.verilog_lex.proofs.lexer.find_tokens.Goals as goal
 
 pub loop-first-preserved-in-Skipped : goal.loop-first-preserved-in-Skipped
