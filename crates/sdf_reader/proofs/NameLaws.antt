@@ -1,5 +1,5 @@
 -- Names are of their form.
-use Rattle.std.proofs.Common.{◌≡◌, ℕ, zero, suc, ◌≤◌, ◌==◌, ◌||◌, Bool, true, false, Option, Some, None, List, [], ◌∷◌, ◌++◌, length, refl, sym, ap, ◌∙◌, subst, arith}
+use Rattle.std.proofs.Common.{◌≡◌, ℕ, zero, suc, ◌<◌, ◌≤◌, ◌==◌, ◌||◌, Bool, true, false, Option, Some, None, List, [], ◌∷◌, ◌++◌, length, refl, sym, ap, ◌∙◌, subst, arith}
 use Rattle.std.proofs.lemmas.Bool.{ne_eqb, eqb-true, eq-eqb}
 use Rattle.std.proofs.lemmas.List.{length-append}
 use Rattle.std.specs.Char.{is_ascii_digit, is_ascii_graphic}
@@ -156,3 +156,76 @@ name_sound (suc n) d (b ∷ c ∷ bs) apart room read = by_test (is_plain b || b
     indexed d b c bs apart (eqb-true b 91 is) digit more (name_sound n d more.rest apart (omega arith) more.named))
     (λ not_digit. nowhere d c bs Bracket (rw not_digit refl) behind))
     (λ no_bit. nowhere d b (c ∷ bs) Outside (rw (other, bare, no_bit) refl) read)))
+
+-- one byte further on, backwards
+stays : (d b : ℕ) (bs : List ℕ) (place : Place) (next : Option Place) → behind_byte d place b ≡ next → ends_name d next bs ≡ true → ends_name d (Some place) (b ∷ bs) ≡ true
+unfolding ends_name
+stays d b bs place next is read = ap (λ p. ends_name d p bs) is ∙ read
+
+pub record IsRead (d : ℕ) (bs ps : List ℕ) : Type 0 where
+  pub named : ends_name d (Some Outside) bs ≡ true
+  pub shown : printed_from d false bs ≡ ps
+
+record IsBitRead (d : ℕ) (digits bs ps : List ℕ) : Type 0 where
+  named : ends_name d (Some Index) (digits ++ 93 ∷ bs) ≡ true
+  shown : printed_from d false (digits ++ 93 ∷ bs) ≡ digits ++ 93 ∷ ps
+
+bit_complete : (d : ℕ) (digits bs ps : List ℕ) → IsApart d → all_ascii_digits digits ≡ true → IsRead d bs ps → IsBitRead d digits bs ps
+bit_complete d [] bs ps apart are given = record {
+  named = stays d 93 bs Index (Some Outside) refl given.named;
+  shown = shown_plain d 93 bs (λ same. omega (arith, same)) (λ same. apart.closing_not (sym same)) ∙ ap (λ xs. 93 ∷ xs) given.shown;
+}
+bit_complete d (c ∷ cs) bs ps apart are given = by_test (is_ascii_digit c)
+    (λ digit.
+    let others : all_ascii_digits cs ≡ true = rw digit at are in
+    let more = bit_complete d cs bs ps apart others given in
+    let other = digit_apart d c apart digit in
+    record {
+      named = stays d c (cs ++ 93 ∷ bs) Index (Some Index) (rw digit refl) more.named;
+      shown = shown_plain d c (cs ++ 93 ∷ bs) other.0 other.1 ∙ ap (λ xs. c ∷ xs) more.shown;
+    })
+    (λ other. absurd (let never : false ≡ true = rw other at are in cc))
+
+index_read : (d : ℕ) (digits bs ps : List ℕ) → IsApart d → all_ascii_digits digits ≡ true → 0 < length digits → IsRead d bs ps → IsRead d (91 ∷ (digits ++ 93 ∷ bs)) (91 ∷ (digits ++ 93 ∷ ps))
+index_read d [] bs ps apart are some given = absurd (omega arith)
+index_read d (c ∷ cs) bs ps apart are some given = by_test (is_ascii_digit c)
+    (λ digit.
+    let others : all_ascii_digits cs ≡ true = rw digit at are in
+    let more = bit_complete d cs bs ps apart others given in
+    let other = digit_apart d c apart digit in
+    let opening_other : (91 == d) ≡ false = ne_eqb 91 d (λ same. apart.opening_not (sym same)) in
+    record {
+      named = stays d 91 (c ∷ (cs ++ 93 ∷ bs)) Outside (Some Bracket) (rw opening_other refl) (stays d c (cs ++ 93 ∷ bs) Bracket (Some Index) (rw digit refl) more.named);
+      shown =
+          shown_plain d 91 (c ∷ (cs ++ 93 ∷ bs)) (λ same. omega (arith, same)) (λ same. apart.opening_not (sym same))
+          ∙ ap (λ xs. 91 ∷ xs) (shown_plain d c (cs ++ 93 ∷ bs) other.0 other.1 ∙ ap (λ xs. c ∷ xs) more.shown);
+    })
+    (λ other. absurd (let never : false ≡ true = rw other at are in cc))
+
+none_read : (d : ℕ) → IsRead d [] []
+unfolding ends_name printed_from
+none_read d = record { named = refl; shown = refl }
+
+-- and each name is read, in its printed form
+pub name_complete : (d : ℕ) (bs ps : List ℕ) → IsApart d → IsName d bs ps → IsRead d bs ps
+name_complete d _ _ apart none = none_read d
+name_complete d _ _ apart (plain b bs ps is given) =
+    let more = name_complete d bs ps apart given in
+    record {
+      named = stays d b bs Outside (Some Outside) (rw is refl) more.named;
+      shown = shown_plain d b bs (apart_from is_plain b 92 is refl) (apart_from is_plain b d is apart.plain_not) ∙ ap (λ xs. b ∷ xs) more.shown;
+    }
+name_complete d _ _ apart (split bs ps given) =
+    let more = name_complete d bs ps apart given in
+    record {
+      named = stays d d bs Outside (Some Outside) (rw (apart.plain_not, eq-eqb d d refl) refl) more.named;
+      shown = shown_split d d bs apart.backslash_not refl ∙ ap (λ xs. 47 ∷ xs) more.shown;
+    }
+name_complete d _ _ apart (bit digits bs ps are some given) = index_read d digits bs ps apart are some (name_complete d bs ps apart given)
+name_complete d _ _ apart (escape b bs ps graphic given) =
+    let more = name_complete d bs ps apart given in
+    let backslash_other : (92 == d) ≡ false = ne_eqb 92 d (λ same. apart.backslash_not (sym same)) in
+    record {
+      named = stays d 92 (b ∷ bs) Outside (Some Escape) (rw backslash_other refl) (stays d b bs Escape (Some Outside) (rw graphic refl) more.named);
+      shown = shown_escape d 92 b bs refl ∙ ap (λ xs. escaped b ++ xs) more.shown;
+    }

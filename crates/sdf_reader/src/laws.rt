@@ -51,8 +51,10 @@ pub fn all_repetitions()
     ensures elements { (s t : Left Token) → Until is_last element s t → before_last s ≡ Some t }
 {}
 
-/// A word that is read as a name is one, and what is read is its printed form.
+/// A word that is read as a name is one, and what is read is its printed form; and all names are read.
 pub fn names_have_their_form()
     ensures point { (word : List ℕ) → is_name 46 word ≡ true → IsName 46 word (printed 46 word) }
     ensures slash { (word : List ℕ) → is_name 47 word ≡ true → IsName 47 word (printed 47 word) }
+    ensures all_point { (word shown : List ℕ) → IsName 46 word shown → (is_name 46 word ≡ true) × (printed 46 word ≡ shown) }
+    ensures all_slash { (word shown : List ℕ) → IsName 47 word shown → (is_name 47 word ≡ true) × (printed 47 word ≡ shown) }
 {}

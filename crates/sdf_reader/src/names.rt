@@ -141,7 +141,7 @@ fn put_byte(out: &mut Vec<u8>, divider: u8, escape: bool, byte: u8) -> Result<bo
 pub fn printed(alloc: Global, divider: u8, bytes: &[u8]) -> Result<Text, AllocError>
     ensures { IfOk result (λ text. text ≡ printed divider bytes.now) }
 {
-    let mut out = Vec::new(alloc);
+    let mut out = Vec::with_capacity(alloc, bytes.len())?;
     let mut escape = false;
     for byte in bytes {
         escape = put_byte(&mut out, divider, escape, *byte)?;
