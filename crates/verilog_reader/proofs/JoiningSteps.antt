@@ -1,6 +1,5 @@
 -- The turns of the loop that reads an expression.
-use Rattle.std.proofs.Common.{◌≡◌, ℕ, ◌<◌, ◌==◌, ◌&&◌, not, Bool, true, false, Option, Some, None, List, [], ◌∷◌, ◌++◌, refl, sym, ap, ◌∙◌, append_assoc}
-use Rattle.text_scan.specs.Left.{◌>>=◌}
+use Rattle.std.proofs.Common.{◌≡◌, ℕ, ◌<◌, ◌==◌, not, Bool, true, false, Option, Some, None, List, [], ◌∷◌, ◌++◌, refl, sym, ap, ◌∙◌}
 use Rattle.text_scan.specs.Repeat.{repeat}
 use Rattle.verilog_reader.specs.Left.{Left, size}
 use Rattle.verilog_reader.specs.Joining.{Joint, is_done, turn, somes, expr}

@@ -1,7 +1,6 @@
 -- The turns of the loop that reads a list with commas.
-use Rattle.std.proofs.Common.{◌≡◌, ℕ, ◌<◌, Bool, true, false, not, Option, Some, None, List, [], ◌∷◌, ◌++◌, refl, sym, ap, ◌∙◌}
+use Rattle.std.proofs.Common.{◌≡◌, ◌<◌, true, false, Some, None, List, [], ◌∷◌, ◌++◌, refl, ap, ◌∙◌}
 use Rattle.std.specs.Str.{byte}
-use Rattle.text_scan.specs.Left.{◌>>=◌}
 use Rattle.text_scan.specs.Repeat.{repeat}
 use Rattle.verilog_reader.specs.Left.{Left, Production, size, begins}
 use Rattle.verilog_reader.specs.Words.{is_sign}

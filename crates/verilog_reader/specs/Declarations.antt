@@ -1,5 +1,5 @@
 -- Declarations of ports, in the header of a module and in its body.
-use Rattle.std.specs.Prelude.{ℕ, ◌&&◌, ◌||◌, Bool, true, List, [], ◌∷◌, codes, is_some, is_none, Option, Some, None, if◌then◌else◌}
+use Rattle.std.specs.Prelude.{◌&&◌, ◌||◌, Bool, true, List, [], ◌∷◌, codes, is_some, is_none, Option, Some, None, if◌then◌else◌}
 use Rattle.std.specs.List.{list_all}
 use Rattle.std.specs.Str.{byte}
 use Rattle.text_scan.specs.Left.{◌>>=◌}

@@ -9,6 +9,13 @@ pub mod Lists
 pub mod Links
 pub mod Declarations
 pub mod Items
+pub mod Sources
+pub mod Modules
+pub mod Tables
+pub mod Surveys
+pub mod Breaches
+pub mod Netlists
+pub mod Readers
 pub mod Answers
 pub mod Readings
 pub mod Joints

@@ -1,8 +1,8 @@
 -- The links of an instance.
-use Rattle.std.specs.Prelude.{ℕ, ◌||◌, Bool, List, [], Option, Some, None, if◌then◌else◌}
+use Rattle.std.specs.Prelude.{◌||◌, Bool, List, [], Some, if◌then◌else◌}
 use Rattle.std.specs.Str.{byte}
 use Rattle.text_scan.specs.Left.{◌>>=◌}
-use Rattle.verilog_reader.specs.Left.{Left, Production, Word, begins}
+use Rattle.verilog_reader.specs.Left.{Production, Word, begins}
 use Rattle.verilog_reader.specs.Words.{sign, is_sign}
 use Rattle.verilog_reader.specs.Names.{id}
 use Rattle.verilog_reader.specs.Joining.{expr}

@@ -1,5 +1,5 @@
 -- Lists of one production, with commas between.
-use Rattle.std.specs.Prelude.{ℕ, not, Bool, List, ◌∷◌, Option, Some, None}
+use Rattle.std.specs.Prelude.{not, Bool, List, ◌∷◌, Some}
 use Rattle.std.specs.Str.{byte}
 use Rattle.text_scan.specs.Left.{◌>>=◌}
 use Rattle.text_scan.specs.Repeat.{repeat}

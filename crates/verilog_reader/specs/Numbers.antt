@@ -4,7 +4,7 @@ use Rattle.std.specs.Str.{byte}
 use Rattle.text_scan.specs.Digits.{value_of}
 use Rattle.text_scan.specs.Left.{◌>>=◌}
 use Rattle.verilog_lex.specs.Kinds.{numbers}
-use Rattle.verilog_reader.specs.Left.{Left, Production, Word, next, begins, breached}
+use Rattle.verilog_reader.specs.Left.{Production, Word, next, begins, breached}
 use Rattle.verilog_reader.specs.Words.{sign, is_sign}
 use Rattle.bud_model.specs.declared.modules.Range.{Range}
 

@@ -1,5 +1,5 @@
 -- Expressions: nets, bits and parts of nets, constants, and concatenations of these.
-use Rattle.std.specs.Prelude.{◌≡◌, ℕ, Bool, List, [], ◌∷◌, ◌++◌, Option, Some, None, if◌then◌else◌}
+use Rattle.std.specs.Prelude.{◌≡◌, ℕ, Bool, List, [], ◌∷◌, ◌++◌, Some, if◌then◌else◌}
 use Rattle.std.specs.Str.{byte}
 use Rattle.text_scan.specs.Left.{◌>>=◌}
 use Rattle.verilog_lex.specs.Kinds.{numbers}

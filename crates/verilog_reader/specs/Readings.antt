@@ -1,5 +1,5 @@
 -- What readings and words of the code stand for.
-use Rattle.std.specs.Prelude.{ℕ, ◌<◌, ◌≤◌, length}
+use Rattle.std.specs.Prelude.{◌<◌, ◌≤◌, length}
 use Rattle.verilog_reader.specs.Left.{Left, Word}
 use Rattle.verilog_reader.specs.declared.readings.Reading.{Reading}
 use Rattle.verilog_reader.specs.declared.spellings.Spelling.{Spelling}

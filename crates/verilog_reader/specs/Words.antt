@@ -3,7 +3,7 @@ use Rattle.std.specs.Prelude.{ℕ, ◌&&◌, Bool, List, [], ◌∷◌, Option, 
 use Rattle.std.specs.Str.{bytes_eq}
 use Rattle.text_scan.specs.Left.{◌>>=◌}
 use Rattle.verilog_lex.specs.Kinds.{names, signs}
-use Rattle.verilog_reader.specs.Left.{Left, Word, next, begins, with_tokens}
+use Rattle.verilog_reader.specs.Left.{Left, Word, next}
 
 -- the word is this sign
 abbrev pub is_sign : ℕ → Word → Bool

@@ -1,7 +1,7 @@
 //! What a module is made of as it stands in the text.
 
 use bud_base::{Listed, Text};
-use bud_model::{Assigns, Dir, LinkList, Range};
+use bud_model::{Assigns, Dir, LinkList, Module, Range};
 
 /// An identifier: its name, and the offset at which it begins.
 #[derive(Debug, Drop)]
@@ -50,4 +50,24 @@ pub enum Item {
     Cells(Text, CellList),
     /// What has no effect.
     Skipped,
+}
+
+/// What stands in the body of a module, in order.
+pub type ItemList = Listed<Item>;
+
+/// A module as it stands in the text.
+#[derive(Debug, Drop)]
+pub struct Tree {
+    pub leaf: bool,
+    pub name: Text,
+    pub header: Header,
+    pub items: ItemList,
+}
+
+/// The module that a tree makes.
+#[derive(Debug, Drop)]
+pub struct Assembled {
+    pub module: Module,
+    /// The port without a direction, or the name that is listed or declared twice, that begins first.
+    pub fault: Option<Named>,
 }

@@ -1,7 +1,7 @@
 use Rattle.std.proofs.Common.{◌≡◌, ◌++◌, ◌∷◌, [], sym, ◌∙◌, rules, arith}
 use Rattle.std.proofs.lemmas.Result.{err_from_is_err_and}
 use Rattle.verilog_reader.specs.Left.{size}
-use Rattle.verilog_reader.specs.Items.{ends_module, body_item, items}
+use Rattle.verilog_reader.specs.Items.{ends_module, body_item}
 use Rattle.verilog_reader.specs.Readings.{left_of}
 use Rattle.verilog_reader.proofs.RepeatSteps.{begun, turned, turn_stops, ended}
 use Rattle.verilog_reader.proofs.items.items.Goals as goal

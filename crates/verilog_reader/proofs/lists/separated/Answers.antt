@@ -1,7 +1,7 @@
-use Rattle.std.proofs.Common.{◌≡◌, ◌++◌, ◌∷◌, [], sym, ◌∙◌, rules, arith, subst, List}
+use Rattle.std.proofs.Common.{◌≡◌, ◌++◌, ◌∷◌, [], sym, ◌∙◌, rules, arith}
 use Rattle.std.proofs.lemmas.Result.{err_from_is_err_and}
 use Rattle.verilog_reader.specs.Readings.{left_of}
-use Rattle.verilog_reader.proofs.ListSteps.{IsListing, listing_begins, listing_turns, listing_stops, listing_ends, first_stops}
+use Rattle.verilog_reader.proofs.ListSteps.{listing_begins, listing_turns, listing_stops, listing_ends, first_stops}
 use Rattle.verilog_reader.proofs.lists.separated.Goals as goal
 
 pub returns-in_err-first-clause-read : goal.returns-in_err-first-clause-read
