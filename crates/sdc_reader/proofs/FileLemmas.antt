@@ -3,13 +3,14 @@ use Rattle.std.proofs.Common.{◌≡◌, ℕ, zero, suc, ◌+◌, ◌^◌, ◌<�
 use Rattle.std.specs.List.{AllByRecursion}
 use Rattle.std.proofs.lemmas.List.{append-nil, reverse-append, reverse-reverse}
 use Rattle.text_scan.proofs.Binds.{by_test}
-use Rattle.tcl_words.specs.Commands.{IsWordOf, AreWordsOf, Splits}
+use Rattle.tcl_words.specs.Commands.{IsWordOf, AreWordsOf, AreCommandsOf, Splits}
 use Rattle.tcl_words.specs.declared.words.Word.{Word}
 use Rattle.tcl_words.specs.declared.words.WordKind.{WordKind}
 use Rattle.tcl_words.specs.declared.words.WordKind.TheVariants.{Bare, Quoted, Braced, Bracket}
 use Rattle.tcl_words.specs.Characters.{characters}
 use Rattle.tcl_words.proofs.PartLemmas.{brackets_of, commands_of}
 use Rattle.tcl_words.proofs.LineLemmas.{commands_once}
+use Rattle.bud_model.specs.declared.constraints.SdcCommand.{SdcCommand}
 use Rattle.bud_model.specs.declared.constraints.SdcFile.{SdcFile}
 use Rattle.sdc_reader.specs.declared.faults.SdcFault.{SdcFault}
 use Rattle.sdc_reader.specs.declared.faults.SdcFault.TheVariants.{Syntax, UnknownCommand, UnknownOption, Value, NoMemory}
@@ -21,9 +22,9 @@ use Rattle.sdc_reader.specs.Answers.{Answer, Fails, Gives, UnlessMemory, IsSynta
 use Rattle.sdc_reader.specs.Words.{is_bracket}
 use Rattle.sdc_reader.specs.Brackets.{Forest, Opens, opened}
 use Rattle.sdc_reader.specs.Brackets.Forest.{nothing, plain_word, in_brackets}
-use Rattle.sdc_reader.specs.Commands.{command, either}
+use Rattle.sdc_reader.specs.Commands.{command, either, single}
 use Rattle.sdc_reader.specs.Rooms.{HasRoom, HaveRoom, weight, weights}
-use Rattle.sdc_reader.specs.Files.{unit_after, with_line, file, OpenAll, HasAnswer, IsTorn, IsSyntaxAt, IsReadAnswer, advanced, behind_progress, GoesOn}
+use Rattle.sdc_reader.specs.Files.{unit_after, with_line, file, OpenAll, HasAnswer, IsTorn, IsSyntaxAt, IsReadAnswer, advanced, behind_progress, GoesOn, only, IsCommandSyntax, IsCommandAnswer}
 use Rattle.sdc_reader.proofs.AnswerLemmas.{fails_behind}
 use Rattle.sdc_reader.proofs.OpenLemmas.{brackets_weight, weight_more, opens_once}
 
@@ -226,3 +227,25 @@ torn_given text (Err (UnknownCommand name at)) is torn = absurd (torn is.command
 torn_given text (Err (UnknownOption name at)) is torn = absurd (torn is.commands is.splits)
 torn_given text (Err (Value at)) is torn = absurd (torn is.commands is.splits)
 torn_given text (Err NoMemory) is torn = tt
+
+command_for : (text : List ℕ) (first : List Word) (others : List (List Word)) (f : Forest) (result : Result SdcCommand SdcFault) → Splits text (first ∷ others) → Opens first f → Gives (λ value. value) result (only (single (opened f)) others) → IsCommandAnswer text result
+command_for text first others f (Ok value) splits opens gives = record { first = first; others = others; splits = splits; forest = f; opens = opens; says = gives }
+command_for text first others f (Err (Syntax at)) splits opens gives = IsCommandSyntax.refused (record { first = first; others = others; splits = splits; forest = f; opens = opens; says = gives })
+command_for text first others f (Err (UnknownCommand name at)) splits opens gives = record { first = first; others = others; splits = splits; forest = f; opens = opens; says = gives }
+command_for text first others f (Err (UnknownOption name at)) splits opens gives = record { first = first; others = others; splits = splits; forest = f; opens = opens; says = gives }
+command_for text first others f (Err (Value at)) splits opens gives = record { first = first; others = others; splits = splits; forest = f; opens = opens; says = gives }
+command_for text first others f (Err NoMemory) splits opens gives = tt
+
+-- what is read of the first command of a text, and of what stands behind it, is the text's answer
+pub command_is : (text : List ℕ) (commands : List (List Word)) (first : List Word) (others : List (List Word)) (result : Result SdcCommand SdcFault) → commands ≡ first ∷ others → Splits text commands →
+    ((f : Forest) → Opens first f → Gives (λ value. value) result (only (single (opened f)) others)) → IsCommandAnswer text result
+command_is text commands first others result is splits gives =
+    let given : Splits text (first ∷ others) = rw is at splits in
+    let parts = (commands_of text (first ∷ others) given).each.0 in
+    let opening = open_words (weights first) (length text) first (omega arith) parts.each in
+    command_for text first others opening.0 result given opening.1 (gives opening.0 opening.1)
+
+pub first_room : (text : List ℕ) (commands : List (List Word)) (first : List Word) (others : List (List Word)) → length text < 2 ^ 31 → commands ≡ first ∷ others → AreCommandsOf (length text) commands → HaveRoom first
+first_room text commands first others room is parts =
+    let each : AllByRecursion (AreWordsOf (length text)) (first ∷ others) = rw is at parts.each in
+    record { each = word_room (length text) first room each.0.each }

@@ -2,6 +2,7 @@
 use Rattle.std.specs.Prelude.{◌≡◌, ℕ, Some, None, List, [], ◌∷◌, ◌++◌, map, Result, Ok, Err}
 use Rattle.tcl_words.specs.Commands.{Splits}
 use Rattle.tcl_words.specs.declared.words.Word.{Word}
+use Rattle.bud_model.specs.declared.constraints.SdcCommand.{SdcCommand}
 use Rattle.bud_model.specs.declared.constraints.SdcFile.{SdcFile}
 use Rattle.sdc_reader.specs.declared.faults.SdcFault.{SdcFault}
 use Rattle.sdc_reader.specs.declared.faults.SdcFault.TheVariants.{Syntax, UnknownCommand, UnknownOption, Value, NoMemory}
@@ -13,7 +14,7 @@ use Rattle.sdc_reader.specs.declared.opened.Opened.{Opened}
 use Rattle.sdc_reader.specs.declared.reader.Progress.{Progress}
 use Rattle.sdc_reader.specs.Answers.{Answer, ◌>>=◌}
 use Rattle.sdc_reader.specs.Brackets.{Forest, Opens, opened}
-use Rattle.sdc_reader.specs.Commands.{command, either}
+use Rattle.sdc_reader.specs.Commands.{command, either, single}
 
 -- the unit of times behind a line
 abbrev pub unit_after : TimeUnit → Line → TimeUnit
@@ -92,3 +93,43 @@ behind_progress progress read = read >>= λ rest. Ok (record { design = either r
 -- the commands that are left go on to this answer
 abbrev pub GoesOn : Progress → List (List Word) → Answer SdcFile → Type 0
 GoesOn progress left answer = (fs : List Forest) × (OpenAll left fs × (behind_progress progress (file progress.unit (map opened fs)) ≡ answer))
+
+-- no command stands here; else it is refused at its name
+abbrev pub none_more : List (List Word) → Answer (Unit {0})
+none_more [] = Ok tt
+none_more ([] ∷ _) = Err (Syntax 0)
+none_more ((name ∷ _) ∷ _) = Err (Syntax name.at)
+
+-- one timing command and no other, of which this is the opening
+abbrev pub only : Answer SdcCommand → List (List Word) → Answer SdcCommand
+only read others = do
+  command ← read
+  done ← none_more others
+  Ok command
+
+-- The answer that a text has of which one timing command is wanted.
+pub record HasCommand (text : List ℕ) (answer : Answer SdcCommand) : Type 0 where
+  pub first : List Word
+  pub others : List (List Word)
+  pub splits : Splits text (first ∷ others)
+  pub forest : Forest
+  pub opens : Opens first forest
+  pub says : only (single (opened forest)) others ≡ answer
+
+-- the text isn't made of words, or has no command
+pub data HasNone (text : List ℕ) : Type 0 where
+  torn : IsTorn text → HasNone text
+  empty : Splits text [] → HasNone text
+
+pub data IsCommandSyntax (text : List ℕ) (at : ℕ) : Type 0 where
+  none : HasNone text → IsCommandSyntax text at
+  refused : HasCommand text (Err (Syntax at)) → IsCommandSyntax text at
+
+-- what each answer of `read_command` says of the text
+abbrev pub IsCommandAnswer : List ℕ → Result SdcCommand SdcFault → Type 0
+IsCommandAnswer text (Ok value) = HasCommand text (Ok value)
+IsCommandAnswer text (Err (Syntax at)) = IsCommandSyntax text at
+IsCommandAnswer text (Err (UnknownCommand name at)) = HasCommand text (Err (UnknownCommand name at))
+IsCommandAnswer text (Err (UnknownOption name at)) = HasCommand text (Err (UnknownOption name at))
+IsCommandAnswer text (Err (Value at)) = HasCommand text (Err (Value at))
+IsCommandAnswer text (Err NoMemory) = Unit {0}

@@ -15,4 +15,4 @@ mod values;
 mod words;
 
 pub use faults::SdcFault;
-pub use reader::{one_answer, read_sdc};
+pub use reader::{one_answer, read_command, read_sdc};

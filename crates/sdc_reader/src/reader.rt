@@ -4,17 +4,17 @@ ghost use Rattle.sdc_reader.specs.declared.faults.SdcFault.{SdcFault as Fault};
 ghost use Rattle.std.specs.List.{AllByRecursion};
 ghost use Rattle.sdc_reader.specs.Answers.{Gives, UnlessMemory, IsSyntax};
 ghost use Rattle.sdc_reader.specs.Brackets.{Forest, Opens, opened};
-ghost use Rattle.sdc_reader.specs.Commands.{command};
-ghost use Rattle.sdc_reader.specs.Files.{file, OpenAll, HasAnswer, IsTorn, IsReadAnswer, advanced};
+ghost use Rattle.sdc_reader.specs.Commands.{command, single};
+ghost use Rattle.sdc_reader.specs.Files.{file, OpenAll, HasAnswer, IsTorn, IsReadAnswer, advanced, none_more, only, IsCommandAnswer};
 ghost use Rattle.sdc_reader.specs.Rooms.{HaveRoom};
 ghost use Rattle.sdc_reader.specs.declared.given.TimeUnit.TheVariants.{Nanoseconds};
 
 use crate::brackets::open_all;
-use crate::commands::command;
+use crate::commands::{command, single};
 use crate::faults::SdcFault;
 use crate::given::{Line, TimeUnit};
 use bud_base::Text;
-use bud_model::{SdcCommands, SdcFile};
+use bud_model::{SdcCommand, SdcCommands, SdcFile};
 use std::alloc::Global;
 use tcl_words::{Command, TclFault, commands};
 
@@ -110,3 +110,49 @@ fn read_answer(alloc: Global, text: &[u8]) -> Result<SdcFile, SdcFault>
 pub fn one_answer()
     ensures { (text : List ℕ) (a b : Result File Fault) → HasAnswer text a → HasAnswer text b → a ≡ b }
 {}
+
+/// Refuses a command that stands here, at its name.
+fn none_more(commands: &[Command]) -> Result<(), SdcFault>
+    ensures { Gives (λ done. done) result (none_more commands.now) }
+{
+    let Some((words, _)) = commands.split_first() else {
+        return Ok(());
+    };
+    match words.as_slice().split_first() {
+        None => Err(SdcFault::Syntax(0)),
+        Some((name, _)) => Err(SdcFault::Syntax(name.at)),
+    }
+}
+
+/// Reads the first command, and refuses others.
+fn read_only(alloc: Global, first: Command, others: &[Command]) -> Result<SdcCommand, SdcFault>
+    requires { HaveRoom first }
+    ensures { (f : Forest) → Opens first f → Gives (λ command. command) result (only (single (opened f)) others.now) }
+{
+    let words = open_all(alloc, first)?;
+    let command = single(alloc, words.as_slice())?;
+    none_more(others)?;
+    Ok(command)
+}
+
+/// Reads a text that is one timing command, with times in nanoseconds.
+///
+/// Syntax comes where the text isn't made of words or has no command, and at the name of a second command. Commands that
+/// say nothing of timing (`set`, `set_units`, `current_design`) aren't known here. Else it is as with `read_sdc`.
+pub fn read_command(alloc: Global, text: &[u8]) -> Result<SdcCommand, SdcFault>
+    requires { length text.now < 2 ^ 31 }
+    ensures answer { IsCommandAnswer text.now result }
+{
+    match commands(alloc, text) {
+        Ok(list) => {
+            let mut all = list.into_vec();
+            if all.is_empty() {
+                return Err(SdcFault::Syntax(0));
+            }
+            let first = all.remove(0);
+            read_only(alloc, first, all.as_slice())
+        }
+        Err(TclFault::Syntax(at)) => Err(SdcFault::Syntax(at)),
+        Err(TclFault::NoMemory) => Err(SdcFault::NoMemory),
+    }
+}
