@@ -3,3 +3,6 @@ pub mod ListLemmas
 pub mod AnswerLemmas
 pub mod TimeLemmas
 pub mod CollectedLemmas
+pub mod OpenLemmas
+pub mod ListedLemmas
+pub mod FileLemmas

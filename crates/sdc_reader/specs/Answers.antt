@@ -32,3 +32,20 @@ IsFault (UnknownCommand name at) fault = fault ≡ UnknownCommand name at
 IsFault (UnknownOption name at) fault = fault ≡ UnknownOption name at
 IsFault (Value at) fault = fault ≡ Value at
 IsFault NoMemory fault = Unit {0}
+
+-- this holds, unless memory ran out
+abbrev pub UnlessMemory : {X : Type 0} → Result X SdcFault → Type 0 → Type 0
+UnlessMemory (Ok _) P = P
+UnlessMemory (Err (Syntax _)) P = P
+UnlessMemory (Err (UnknownCommand _ _)) P = P
+UnlessMemory (Err (UnknownOption _ _)) P = P
+UnlessMemory (Err (Value _)) P = P
+UnlessMemory (Err NoMemory) P = Unit {0}
+
+abbrev pub IsSyntax : {X : Type 0} → Result X SdcFault → Type 0
+IsSyntax (Ok _) = ⊥
+IsSyntax (Err (Syntax _)) = Unit {0}
+IsSyntax (Err (UnknownCommand _ _)) = ⊥
+IsSyntax (Err (UnknownOption _ _)) = ⊥
+IsSyntax (Err (Value _)) = ⊥
+IsSyntax (Err NoMemory) = ⊥

@@ -2,6 +2,7 @@
 use Rattle.std.specs.Prelude.{ℕ, ℤ, pos, ◌&&◌, not, Bool, true, false, Option, Some, None, is_none, List, [], ◌∷◌, Ok, Err, codes, if◌then◌else◌}
 use Rattle.std.specs.Str.{bytes_eq}
 use Rattle.tcl_words.specs.declared.words.Word.{Word}
+use Rattle.bud_model.specs.declared.constraints.SdcCommand.{SdcCommand}
 use Rattle.bud_model.specs.declared.constraints.Object.{Object}
 use Rattle.bud_model.specs.declared.constraints.SdcCommand.TheVariants as timing
 use Rattle.bud_model.specs.declared.edges.Edge.{Edge}
@@ -14,6 +15,7 @@ use Rattle.sdc_reader.specs.declared.options.CommandKind.{CommandKind}
 use Rattle.sdc_reader.specs.declared.options.CommandKind.TheVariants.{Version, Units, Design, CreateClock, InputDelay, OutputDelay, FalsePath, Multicycle, MaxDelay}
 use Rattle.sdc_reader.specs.declared.options.SdcOption.{SdcOption}
 use Rattle.sdc_reader.specs.declared.given.TimeUnit.{TimeUnit}
+use Rattle.sdc_reader.specs.declared.given.TimeUnit.TheVariants.{Nanoseconds}
 use Rattle.sdc_reader.specs.declared.given.Waveform.{Waveform}
 use Rattle.sdc_reader.specs.declared.given.Given.{Given}
 use Rattle.sdc_reader.specs.declared.given.Line.{Line}
@@ -167,3 +169,33 @@ command unit [] = Ok does.Nothing
 command unit (name ∷ words) = do
   kind ← kind_word name
   obeyed unit kind name.word words
+
+abbrev pub is_timing : CommandKind → Bool
+is_timing Version = false
+is_timing Units = false
+is_timing Design = false
+is_timing CreateClock = true
+is_timing InputDelay = true
+is_timing OutputDelay = true
+is_timing FalsePath = true
+is_timing Multicycle = true
+is_timing MaxDelay = true
+
+-- where a timing command is to stand, others aren't known
+abbrev pub timing_kind : Word → CommandKind → Answer (Unit {0})
+timing_kind name kind = if is_timing kind then Ok tt else Err (UnknownCommand name.text name.at)
+
+abbrev pub timing_of : Line → Answer SdcCommand
+timing_of does.Nothing = Err (Syntax 0)
+timing_of (does.Unit _) = Err (Syntax 0)
+timing_of (does.Design _) = Err (Syntax 0)
+timing_of (does.Timing command) = Ok command
+
+-- a timing command, with times in nanoseconds
+unfoldable pub single : List Opened → Answer SdcCommand
+single [] = Err (Syntax 0)
+single (name ∷ words) = do
+  kind ← kind_word name
+  done ← timing_kind name.word kind
+  line ← obeyed Nanoseconds kind name.word words
+  timing_of line

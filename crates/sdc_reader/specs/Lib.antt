@@ -3,7 +3,9 @@ pub mod Words
 pub mod Lists
 pub mod Numbers
 pub mod Brackets
+pub mod Rooms
 pub mod Options
 pub mod Values
 pub mod Collecting
 pub mod Commands
+pub mod Files

@@ -1,7 +1,7 @@
 ghost use Rattle.std.specs.Prelude.{◌≡◌, Err};
 ghost use Rattle.sdc_reader.specs.declared.faults.SdcFault.TheVariants.{UnknownCommand};
 ghost use Rattle.sdc_reader.specs.Answers.{Gives};
-ghost use Rattle.sdc_reader.specs.Commands.{needed, either, first_name, edges_of, objects_of, edge_of, is_setup, has_part, clock_line, input_delay_line, output_delay_line, false_path_line, multicycle_line, max_delay_line, unit_line, line, nothing_awaited, kind_word, is_version, behind_variable, is_set, behind_name, obeyed, command};
+ghost use Rattle.sdc_reader.specs.Commands.{needed, either, first_name, edges_of, objects_of, edge_of, is_setup, has_part, clock_line, input_delay_line, output_delay_line, false_path_line, multicycle_line, max_delay_line, unit_line, line, nothing_awaited, kind_word, is_version, behind_variable, is_set, behind_name, obeyed, command, is_timing, timing_of, single};
 
 use crate::collecting::{collect_all, is_named};
 use crate::faults::SdcFault;
@@ -312,4 +312,38 @@ pub fn command(alloc: Global, unit: TimeUnit, words: &[Opened]) -> Result<Line, 
     };
     let kind = kind_word(alloc, name)?;
     obey(alloc, unit, kind, &name.word, rest)
+}
+
+fn is_timing(kind: CommandKind) -> bool
+    ensures { result ≡ is_timing kind }
+{
+    match kind {
+        CommandKind::Version | CommandKind::Units | CommandKind::Design => false,
+        _ => true,
+    }
+}
+
+fn timing_of(line: Line) -> Result<SdcCommand, SdcFault>
+    ensures { Gives (λ command. command) result (timing_of line) }
+{
+    match line {
+        Line::Timing(command) => Ok(command),
+        _ => Err(SdcFault::Syntax(0)),
+    }
+}
+
+/// The timing command that has these words, with times in nanoseconds.
+#[tactic(auto, unfolding(crate::specs::Commands::single))]
+pub fn single(alloc: Global, words: &[Opened]) -> Result<SdcCommand, SdcFault>
+    ensures { Gives (λ command. command) result (single words.now) }
+{
+    let Some((name, rest)) = words.split_first() else {
+        return Err(SdcFault::Syntax(0));
+    };
+    let kind = kind_word(alloc, name)?;
+    if !is_timing(kind) {
+        return refuse_command(alloc, &name.word);
+    }
+    let line = obey(alloc, TimeUnit::Nanoseconds, kind, &name.word, rest)?;
+    timing_of(line)
 }

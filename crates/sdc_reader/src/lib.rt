@@ -1,6 +1,7 @@
 //! Constraints texts (SDC): their commands, as plain values.
 #![tactic(auto)]
 
+mod brackets;
 mod collecting;
 mod commands;
 mod faults;
@@ -9,7 +10,9 @@ mod lists;
 mod numbers;
 mod opened;
 mod options;
+mod reader;
 mod values;
 mod words;
 
 pub use faults::SdcFault;
+pub use reader::{one_answer, read_command, read_sdc};
