@@ -11,6 +11,8 @@ mod numbers;
 mod opened;
 mod options;
 mod reader;
+#[cfg(test)]
+mod tests;
 mod values;
 mod words;
 
