@@ -1,11 +1,12 @@
 ghost use Rattle.std.specs.Prelude.{◌≡◌, ◌<◌, ◌^◌, ℕ, List, Result, length, map, Ok};
+ghost use Rattle.bud_model.specs.declared.constraints.SdcCommand.{SdcCommand as Single};
 ghost use Rattle.bud_model.specs.declared.constraints.SdcFile.{SdcFile as File};
 ghost use Rattle.sdc_reader.specs.declared.faults.SdcFault.{SdcFault as Fault};
 ghost use Rattle.std.specs.List.{AllByRecursion};
 ghost use Rattle.sdc_reader.specs.Answers.{Gives, UnlessMemory, IsSyntax};
 ghost use Rattle.sdc_reader.specs.Brackets.{Forest, Opens, opened};
 ghost use Rattle.sdc_reader.specs.Commands.{command, single};
-ghost use Rattle.sdc_reader.specs.Files.{file, OpenAll, HasAnswer, IsTorn, IsReadAnswer, advanced, none_more, only, IsCommandAnswer};
+ghost use Rattle.sdc_reader.specs.Files.{file, OpenAll, HasAnswer, IsTorn, IsReadAnswer, advanced, none_more, only, HasCommand, HasNone, IsCommandAnswer};
 ghost use Rattle.sdc_reader.specs.Rooms.{HaveRoom};
 ghost use Rattle.sdc_reader.specs.declared.given.TimeUnit.TheVariants.{Nanoseconds};
 
@@ -106,9 +107,10 @@ fn read_answer(alloc: Global, text: &[u8]) -> Result<SdcFile, SdcFault>
     }
 }
 
-/// A text has at most one answer.
+/// A text has at most one answer, as constraints and as one command.
 pub fn one_answer()
-    ensures { (text : List ℕ) (a b : Result File Fault) → HasAnswer text a → HasAnswer text b → a ≡ b }
+    ensures file { (text : List ℕ) (a b : Result File Fault) → HasAnswer text a → HasAnswer text b → a ≡ b }
+    ensures command { (text : List ℕ) (a b : Result Single Fault) → HasCommand text a → HasCommand text b → a ≡ b }
 {}
 
 /// Refuses a command that stands here, at its name.
@@ -140,6 +142,19 @@ fn read_only(alloc: Global, first: Command, others: &[Command]) -> Result<SdcCom
 /// Syntax comes where the text isn't made of words or has no command, and at the name of a second command. Commands that
 /// say nothing of timing (`set`, `set_units`, `current_design`) aren't known here. Else it is as with `read_sdc`.
 pub fn read_command(alloc: Global, text: &[u8]) -> Result<SdcCommand, SdcFault>
+    requires { length text.now < 2 ^ 31 }
+    // What each answer says of the text.
+    ensures answer { IsCommandAnswer text.now result }
+    // The one answer that a text with a command has is given.
+    ensures exact { (answer : Result Single Fault) → HasCommand text.now answer → UnlessMemory result (result ≡ answer) }
+    // A text that isn't made of words, or has no command, is refused as that.
+    ensures none { HasNone text.now → UnlessMemory result (IsSyntax result) }
+{
+    read_first(alloc, text)
+}
+
+/// The first command of a text, and the refusal of others.
+fn read_first(alloc: Global, text: &[u8]) -> Result<SdcCommand, SdcFault>
     requires { length text.now < 2 ^ 31 }
     ensures answer { IsCommandAnswer text.now result }
 {
