@@ -1,5 +1,4 @@
 pub mod NumberLemmas
-pub mod ListLemmas
 pub mod AnswerLemmas
 pub mod TimeLemmas
 pub mod CollectedLemmas

@@ -1,6 +1,5 @@
 pub mod Answers
 pub mod Words
-pub mod Lists
 pub mod Numbers
 pub mod Brackets
 pub mod Rooms

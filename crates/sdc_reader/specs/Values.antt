@@ -4,6 +4,7 @@ use Rattle.std.specs.Str.{bytes_eq}
 use Rattle.text_scan.specs.declared.decimals.Round.{Round}
 use Rattle.text_scan.specs.declared.decimals.Round.TheVariants.{Down}
 use Rattle.tcl_words.specs.declared.words.Word.{Word}
+use Rattle.tcl_words.specs.Lists.{elements}
 use Rattle.bud_model.specs.declared.constraints.Object.{Object}
 use Rattle.bud_model.specs.declared.constraints.Object.TheVariants as object
 use Rattle.sdc_reader.specs.declared.faults.SdcFault.{SdcFault}
@@ -21,7 +22,7 @@ use Rattle.sdc_reader.specs.declared.given.TimeUnit.{TimeUnit}
 use Rattle.sdc_reader.specs.declared.given.TimeUnit.TheVariants.{Nanoseconds, Picoseconds}
 use Rattle.sdc_reader.specs.declared.given.Waveform.{Waveform}
 use Rattle.sdc_reader.specs.Answers.{Answer, ◌>>=◌}
-use Rattle.sdc_reader.specs.Words.{is_bare, is_clock_name, elements, names_in}
+use Rattle.sdc_reader.specs.Words.{is_bare, is_clock_name, names_in}
 use Rattle.sdc_reader.specs.Numbers.{time, count}
 use Rattle.sdc_reader.specs.Brackets.{found_in, all_of}
 
@@ -213,7 +214,7 @@ two_edges at (_ ∷ _ ∷ _ ∷ _) = Err (Syntax at)
 
 -- the times of a list in braces or quotes
 abbrev pub listed_times : TimeUnit → Opened → List ℕ → Answer (List ℤ)
-listed_times unit o text = if is_bare o.word.kind then Err (Syntax o.word.at) else times (in_ps unit) o.word.at (elements text)
+listed_times unit o text = if is_bare o.word.kind then Err (Syntax o.word.at) else times (in_ps unit) o.word.at (elements o.word.kind text)
 
 -- a list of two times
 unfoldable pub waveform : TimeUnit → Opened → Answer Waveform

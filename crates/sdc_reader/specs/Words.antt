@@ -1,10 +1,11 @@
 -- Words as options, as names and as lists of names.
-use Rattle.std.specs.Prelude.{ℕ, ◌==◌, ◌||◌, ◌&&◌, not, Bool, true, false, List, [], ◌∷◌, filter, if◌then◌else◌}
-use Rattle.std.specs.List.{list_all, slice_split}
+use Rattle.std.specs.Prelude.{ℕ, ◌==◌, ◌||◌, ◌&&◌, not, Bool, true, false, List, [], ◌∷◌, if◌then◌else◌}
+use Rattle.std.specs.List.{list_all}
 use Rattle.std.specs.Char.{is_ascii_digit, is_ascii_alphanumeric}
 use Rattle.tcl_words.specs.declared.words.Word.{Word}
 use Rattle.tcl_words.specs.declared.words.WordKind.{WordKind}
 use Rattle.tcl_words.specs.declared.words.WordKind.TheVariants.{Bare, Quoted, Braced, Bracket}
+use Rattle.tcl_words.specs.Lists.{elements}
 
 abbrev pub is_bare : WordKind → Bool
 is_bare Bare = true
@@ -39,20 +40,6 @@ is_name_byte b = is_ascii_alphanumeric b || (b == 95 || (b == 36 || (b == 46 || 
 abbrev pub is_clock_name : List ℕ → Bool
 is_clock_name text = not (is_empty text) && list_all is_name_byte text
 
--- a space, a tab, a line feed, a form feed or a carriage return
-abbrev pub is_white : ℕ → Bool
-is_white b = b == 32 || (b == 9 || (b == 10 || (b == 12 || b == 13)))
-
--- with a space for each backslash before a line feed, and that line feed
-unfoldable pub unfolded : List ℕ → List ℕ
-unfolded [] = []
-unfolded (b ∷ []) = b ∷ []
-unfolded (b ∷ c ∷ bs) = if b == 92 && c == 10 then 32 ∷ unfolded bs else b ∷ unfolded (c ∷ bs)
-
--- the elements of a list in braces or quotes, which is split at white space
-unfoldable pub elements : List ℕ → List (List ℕ)
-elements text = filter (λ element. not (is_empty element)) (slice_split is_white (unfolded text))
-
--- the names in a word that isn't in brackets: a bare word is one
+-- the names in a word that isn't in brackets: a bare word is one, and one in braces or quotes is a list
 abbrev pub names_in : Word → List (List ℕ)
-names_in word = if is_bare word.kind then word.text ∷ [] else elements word.text
+names_in word = if is_bare word.kind then word.text ∷ [] else elements word.kind word.text

@@ -2,20 +2,21 @@ ghost use Rattle.std.specs.Prelude.{◌≡◌, ◌++◌, map, Ok, Err, ◌≤◌
 ghost use Rattle.std.specs.Option.{option_map};
 ghost use Rattle.sdc_reader.specs.Answers.{Gives};
 ghost use Rattle.sdc_reader.specs.Brackets.{found_in, all_of};
-ghost use Rattle.sdc_reader.specs.Words.{elements, names_in};
+ghost use Rattle.sdc_reader.specs.Words.{names_in};
+ghost use Rattle.tcl_words.specs.Lists.{elements};
 ghost use Rattle.sdc_reader.specs.declared.opened.NameKind.TheVariants.{Any as AnyKind};
 ghost use Rattle.sdc_reader.specs.Values.{misplaced_inside, whole, surplus_word, unrefused, as_port, taken, objects, name_in, clock_name, may_name, names_clock, finds_inside, finds_of, named_objects, object_word, any, one_of, gets_clocks, is_get_clocks, named_one, one_found, clock_found, clock, in_ps, time_word, count_word, clock_name_word, times, two_edges, listed_times, waveform, unit_named, unit_word};
 
 use crate::faults::SdcFault;
 use crate::given::{TimeUnit, Waveform};
-use crate::lists::{find_names, next_element};
+use crate::lists::find_names;
 use crate::numbers::{count, time};
 use crate::opened::{Finds, Found, Inside, NameKind, ObjectCommand, Opened};
 use crate::words::{copied, is_bare, is_clock_name, refuse};
 use bud_base::{Listed, Text};
 use bud_model::{Object, Objects};
 use std::alloc::Global;
-use tcl_words::Word;
+use tcl_words::{Word, WordKind, next_element};
 use text_scan::Round;
 
 /// Refuses brackets that begin at this offset, where none may stand.
@@ -206,10 +207,10 @@ fn one_name(alloc: Global, word: &Word) -> Result<Text, SdcFault>
     if is_bare(word.kind) {
         return copied(alloc, word.text.as_slice());
     }
-    let Some((name, rest)) = next_element(word.text.as_slice()) else {
+    let Some((name, rest)) = next_element(word.kind, word.text.as_slice()) else {
         return Err(SdcFault::Syntax(word.at));
     };
-    if next_element(rest).is_some() {
+    if next_element(word.kind, rest).is_some() {
         return Err(SdcFault::Syntax(word.at));
     }
     copied(alloc, name)
@@ -341,13 +342,19 @@ pub fn clock_name_word(alloc: Global, opened: &Opened) -> Result<Text, SdcFault>
 }
 
 /// The times of a list, each rounded down.
-fn times(alloc: Global, unit: TimeUnit, at: usize, list: &[u8]) -> Result<Vec<i64>, SdcFault>
-    ensures { Gives (λ times. times.items) result (times (in_ps unit) at (elements list.now)) }
+fn times(
+    alloc: Global,
+    unit: TimeUnit,
+    kind: WordKind,
+    at: usize,
+    list: &[u8],
+) -> Result<Vec<i64>, SdcFault>
+    ensures { Gives (λ times. times.items) result (times (in_ps unit) at (elements kind list.now)) }
 {
     let unit = in_ps(unit);
     let mut times = Vec::new(alloc);
     let mut rest = list;
-    while let Some((element, behind)) = next_element(rest) {
+    while let Some((element, behind)) = next_element(kind, rest) {
         let edge = time(unit, Round::Down, at, element)?;
         if times.push(edge).is_err() {
             return Err(SdcFault::NoMemory);
@@ -378,7 +385,7 @@ pub fn waveform(alloc: Global, unit: TimeUnit, opened: &Opened) -> Result<Wavefo
     if is_bare(opened.word.kind) {
         return Err(SdcFault::Syntax(opened.word.at));
     }
-    let edges = times(alloc, unit, opened.word.at, text)?;
+    let edges = times(alloc, unit, opened.word.kind, opened.word.at, text)?;
     two_edges(opened.word.at, edges.as_slice())
 }
 

@@ -1,7 +1,7 @@
 ghost use Rattle.std.specs.Prelude.{◌≡◌, ◌∷◌, [], map, Ok, MatchOption, length, ◌<◌, ◌++◌, OnOk};
 ghost use Rattle.std.specs.List.{list_all};
 ghost use Rattle.sdc_reader.specs.Answers.{Gives};
-ghost use Rattle.sdc_reader.specs.Words.{is_bare, is_bracket, is_dashed, is_option, is_name_byte, is_clock_name, is_white};
+ghost use Rattle.sdc_reader.specs.Words.{is_bare, is_bracket, is_dashed, is_option, is_name_byte, is_clock_name};
 
 use crate::faults::SdcFault;
 use bud_base::Text;
@@ -71,12 +71,6 @@ pub fn is_clock_name(text: &[u8]) -> bool
     ensures { result ≡ is_clock_name text.now }
 {
     !text.is_empty() && are_name_bytes(text)
-}
-
-pub fn is_white(byte: u8) -> bool
-    ensures { result ≡ is_white byte }
-{
-    byte == b' ' || byte == b'\t' || byte == b'\n' || byte == 12 || byte == b'\r'
 }
 
 /// A text of its own with these bytes.
