@@ -5,3 +5,5 @@ pub mod TableSteps
 pub mod SurveySteps
 pub mod NetlistSteps
 pub mod ReadLaws
+pub mod SizeLemmas
+pub mod NestingLaws
