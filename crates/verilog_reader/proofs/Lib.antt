@@ -7,3 +7,4 @@ pub mod NetlistSteps
 pub mod ReadLaws
 pub mod SizeLemmas
 pub mod NestingLaws
+pub mod SizeLaws
