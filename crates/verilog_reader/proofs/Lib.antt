@@ -5,3 +5,6 @@ pub mod TableSteps
 pub mod SurveySteps
 pub mod NetlistSteps
 pub mod ReadLaws
+pub mod SizeLemmas
+pub mod NestingLaws
+pub mod SizeLaws

@@ -20,3 +20,4 @@ pub mod Answers
 pub mod Readings
 pub mod Joints
 pub mod Repeats
+pub mod Sizes

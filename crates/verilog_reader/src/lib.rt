@@ -8,6 +8,7 @@ mod faults;
 mod items;
 mod joining;
 mod joints;
+mod laws;
 mod left;
 mod links;
 mod lists;
@@ -29,4 +30,5 @@ mod trees;
 mod words;
 
 pub use faults::VerilogFault;
+pub use laws::nesting_has_no_meaning;
 pub use reader::{one_value, read_verilog};

@@ -1,4 +1,4 @@
-ghost use Rattle.std.specs.Prelude.{◌≡◌, ◌^◌, ◌<◌, ℕ, List, length, All, Some, None, Ok, Err};
+ghost use Rattle.std.specs.Prelude.{◌≡◌, ◌^◌, ◌<◌, ◌≤◌, ℕ, List, length, All, IfOk, Some, None, Ok, Err};
 ghost use Rattle.bud_model.specs.declared.modules.Module.{Module};
 ghost use Rattle.verilog_lex.specs.Tokens.{AreTokens, IsWithin};
 ghost use Rattle.verilog_lex.specs.declared.kinds.Token.{Token};
@@ -7,6 +7,7 @@ ghost use Rattle.verilog_reader.specs.Breaches.{Breach};
 ghost use Rattle.verilog_reader.specs.Breaches.Breach.{of_port, of_number};
 ghost use Rattle.verilog_reader.specs.Netlists.{least_breach, Reads, IsBreached, IsMalformed, IsUnsupported, LeavesOut, IsReadAnswer, IsFaultWithin, UnlessMemory, IsSyntax};
 ghost use Rattle.verilog_reader.specs.Readers.{Breaks, Judges, Refuses};
+ghost use Rattle.verilog_reader.specs.Sizes.{HasAtMost};
 
 use crate::faults::VerilogFault;
 use crate::left::copied;
@@ -79,7 +80,9 @@ fn refused(alloc: Global, text: &[u8], tokens: &[Token], at: usize) -> VerilogFa
 fn read_tokens(alloc: Global, text: &[u8], tokens: &[Token]) -> Result<Modules, VerilogFault>
     requires within { All (IsWithin (length text.now)) tokens.now }
     requires tokens { AreTokens 0 text.now tokens.now }
+    requires size { length tokens.now ≤ length text.now }
     ensures answer { IsReadAnswer text.now result }
+    ensures size { IfOk result (HasAtMost (length text.now)) }
     ensures within { IsFaultWithin (length text.now) result }
 {
     match netlist(alloc, text, tokens) {
@@ -108,6 +111,8 @@ pub fn read_verilog(alloc: Global, text: &[u8]) -> Result<Modules, VerilogFault>
     ensures unsupported { (word : List ℕ) (at : ℕ) → IsUnsupported text.now word at → UnlessMemory result (result ≡ Err (VerilogFault.Unsupported word at)) }
     // Else it is refused as of another form.
     ensures malformed { IsMalformed text.now → ((word : Word) → LeavesOut text.now (Some word) → ⊥) → UnlessMemory result (IsSyntax result) }
+    // No list of the value has more elements than the text has bytes.
+    ensures size { IfOk result (HasAtMost (length text.now)) }
     ensures within { IsFaultWithin (length text.now) result }
 {
     read_text(alloc, text)
@@ -117,6 +122,7 @@ pub fn read_verilog(alloc: Global, text: &[u8]) -> Result<Modules, VerilogFault>
 fn read_text(alloc: Global, text: &[u8]) -> Result<Modules, VerilogFault>
     requires { length text.now < 2 ^ 31 }
     ensures answer { IsReadAnswer text.now result }
+    ensures size { IfOk result (HasAtMost (length text.now)) }
     ensures within { IsFaultWithin (length text.now) result }
 {
     match tokens(alloc, text) {
