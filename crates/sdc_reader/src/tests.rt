@@ -123,6 +123,63 @@ set_false_path -setup -from [get_clocks {bud_0}] -to [get_clocks {bud_1}]
 set_false_path -setup -from [get_pins {r/CK}] -to [get_clocks {bud_0}]
 ";
 
+const OTHER_BLOCK: &[u8] = b"set_units -time ps
+current_design {m2}
+create_clock -name {C1} -period 10000 -waveform {0 5000} [get_ports {k}]
+create_clock -name {bud_0} -period 10000 -waveform {0 5000}
+create_clock -name {bud_1} -period 15000 -waveform {0 7500}
+set_input_delay 4300 -clock {bud_0} -max -add_delay [get_ports {a}]
+set_input_delay 3900 -clock {bud_1} -max -add_delay [get_ports {a}]
+set_output_delay 9500 -clock {bud_0} -max -add_delay [get_ports {y}]
+set_false_path -setup -from [get_clocks {bud_1}] -to [get_clocks {bud_0}]
+";
+
+const CORE_BLOCK: &[u8] = b"set_units -time ps
+current_design {core}
+create_clock -name {C} -period 2000 -waveform {0 1000} [get_ports {ck}]
+create_clock -name {bud_0} -period 2000 -waveform {0 1000}
+set_input_delay 850 -clock {bud_0} -max -add_delay [get_ports {i}]
+set_output_delay 500 -clock {bud_0} -max -add_delay [get_ports {o}]
+";
+
+#[test]
+fn block_files(rt: HostRuntime) {
+    let alloc = rt.alloc();
+    let other = [
+        (10000, true),
+        (10000, true),
+        (15000, true),
+        (4300, true),
+        (3900, true),
+        (9500, true),
+        (0, true),
+    ];
+    reads(&rt, alloc, OTHER_BLOCK, &other);
+    let core = [(2000, true), (2000, true), (850, true), (500, true)];
+    reads(&rt, alloc, CORE_BLOCK, &core);
+}
+
+/// The text isn't made of words.
+fn is_torn(rt: &impl Abort, alloc: Global, text: &[u8]) {
+    assert!(rt; text.len() < 1000);
+    match read_sdc(alloc, text) {
+        Err(SdcFault::Syntax(_)) => {}
+        _ => assert!(rt; false),
+    }
+}
+
+#[test]
+fn torn_texts(rt: HostRuntime) {
+    for text in [
+        b"set_max_delay 1 -to $x".as_slice(),
+        b"set_max_delay 1 -comment \"$x\" -to y".as_slice(),
+        b"set_max_delay 1 -to {a".as_slice(),
+        b"set_load 1 [get_ports $x]".as_slice(),
+    ] {
+        is_torn(&rt, rt.alloc(), text);
+    }
+}
+
 #[test]
 fn texts(rt: HostRuntime) {
     let alloc = rt.alloc();

@@ -119,6 +119,30 @@ fn one_plain_module(rt: HostRuntime) {
     }
 }
 
+/// The text reads as one module of this name.
+fn named(rt: &impl Abort, alloc: Global, text: &[u8], name: &[u8]) {
+    assert!(rt; text.len() < 2000);
+    match read_verilog(alloc, text) {
+        Ok(modules) => {
+            assert_eq!(rt; modules.len(), 1);
+            for module in modules.as_slice() {
+                assert_eq!(rt; module.name.as_slice(), name);
+            }
+        }
+        Err(_) => assert!(rt; false),
+    }
+}
+
+#[test]
+fn escaped_names(rt: HostRuntime) {
+    for text in [
+        b"module cpu3; endmodule".as_slice(),
+        b"module \\cpu3 ; endmodule".as_slice(),
+    ] {
+        named(&rt, rt.alloc(), text, b"cpu3");
+    }
+}
+
 #[test]
 fn netlists(rt: HostRuntime) {
     for (text, modules, sizes) in [
