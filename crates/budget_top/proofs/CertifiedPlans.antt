@@ -3,7 +3,7 @@ use Rattle.std.proofs.Common.{◌≡◌, sym, ◌∙◌, List, ℕ, Result, Ok, 
 use Rattle.std.specs.declared.alloc.AllocError.{AllocError}
 use Rattle.bud_base.specs.Soundness.{IsSound}
 use Rattle.bud_base.specs.declared.problems.Problem.{Problem}
-use Rattle.bud_model.proofs.Duality.{AreBest-from_plan}
+use Rattle.bud_plans.proofs.Duality.{AreBest-from_plan}
 use Rattle.cert_text.specs.Certs.{plan_in}
 use Rattle.cert_text.specs.Texts.{Reads}
 use Rattle.cert_text.specs.declared.certs.Cert.{Cert}

@@ -3,8 +3,8 @@ use Rattle.std.specs.Prelude.{ℕ, ℤ, ◌<◌, List, [], ◌++◌, codes, leng
 use Rattle.bud_base.specs.Paths.{item_at, start_at, end_at}
 use Rattle.bud_base.specs.declared.problems.Problem.{Problem}
 use Rattle.bud_base.specs.declared.problems.Item.{Item}
-use Rattle.bud_model.specs.Budgets.{AreBest}
-use Rattle.bud_model.specs.Plans.{ProvesBudgets, flow_of}
+use Rattle.bud_plans.specs.Budgets.{AreBest}
+use Rattle.bud_plans.specs.Plans.{ProvesBudgets, flow_of}
 use Rattle.cert_text.specs.Certs.{plan_in}
 use Rattle.cert_text.specs.declared.certs.Cert.{Cert}
 use Rattle.plan_cert.specs.Raw.{IsRawCert}

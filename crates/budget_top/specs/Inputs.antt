@@ -6,7 +6,7 @@ use Rattle.bud_base.specs.declared.problems.Problem.{Problem}
 use Rattle.bud_base.specs.declared.texts.TextFault.{TextFault}
 use Rattle.bud_base.specs.declared.texts.TextFault.TheVariants.{Syntax, Value as OutOfRange, NoMemory}
 use Rattle.bud_base.specs.Soundness.{IsListable}
-use Rattle.bud_model.specs.Plans.{HasPlanNumbers}
+use Rattle.bud_plans.specs.Plans.{HasPlanNumbers}
 use Rattle.cert_text.specs.Certs.{plan_in}
 use Rattle.cert_text.specs.declared.certs.Cert.{Cert}
 use Rattle.bud_shelf.specs.Outside.{Files, IsFile, HasLength, IsMissing, Rose}

@@ -1,11 +1,11 @@
 ghost use Rattle.std.specs.Prelude.{◌≡◌, ◌<◌, IfOk};
 ghost use Rattle.bud_base.specs.Paths.{Meets};
 ghost use Rattle.bud_base.specs.Soundness.{IsSound};
-ghost use Rattle.bud_model.specs.Plans.{IsPlanOf, IsHolding, HasPlanNumbers};
+ghost use Rattle.bud_plans.specs.Plans.{IsPlanOf, IsHolding, HasPlanNumbers};
 ghost use Rattle.budget_top.specs.Raw.{IsCertText};
 
 use bud_base::{Problem, Steps, Text};
-use bud_model::Plan;
+use bud_plans::Plan;
 use duals::plan_of;
 use flow_solver::solve;
 use plan_cert::{raw_cert_of, write_cert};

@@ -1,6 +1,6 @@
 ghost use Rattle.std.specs.Prelude.{◌≡◌, ◌≤◌, IfOk, string_bytes};
 ghost use Rattle.bud_base.specs.Soundness.{IsListable, IsSound};
-ghost use Rattle.bud_model.specs.Plans.{HasPlanNumbers};
+ghost use Rattle.bud_plans.specs.Plans.{HasPlanNumbers};
 ghost use Rattle.cert_text.specs.Certs.{plan_in};
 ghost use Rattle.plan_cert.specs.Raw.{IsRawFault};
 ghost use Rattle.budget_top.specs.Certificates.{Certifies};

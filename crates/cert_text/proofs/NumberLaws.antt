@@ -12,7 +12,7 @@ use Rattle.line_text.specs.Numbers.{whole, whole_of, is_within, word}
 use Rattle.line_text.specs.Names.{name}
 use Rattle.line_text.specs.Lines.{Production, titled, Each}
 use Rattle.line_text.specs.Lines.Each.{none, more}
-use Rattle.bud_model.specs.Plans.{IsPlanNumber, IsPlanWeight, HasPlanNumbers}
+use Rattle.bud_plans.specs.Plans.{IsPlanNumber, IsPlanWeight, HasPlanNumbers}
 use Rattle.cert_text.specs.Certs.{plan_in}
 use Rattle.cert_text.specs.Lines as lines
 use Rattle.cert_text.specs.Texts.{IsCertificate, IsReadAnswer}

@@ -17,9 +17,9 @@ use Rattle.line_text.proofs.WrittenLaws.{rows_written}
 use Rattle.line_text.proofs.WrittenSections.{IsWritten, IsWrittenSection, section_written}
 use Rattle.line_text.proofs.PrintedLaws.{count_printed, field_decimal, whole_reads, count_reads}
 use Rattle.bud_base.specs.declared.ids.ClassId.{ClassId}
-use Rattle.bud_model.specs.Plans.{IsPlanNumber, IsPlanWeight}
-use Rattle.bud_model.specs.declared.edges.Edge.{Edge}
-use Rattle.bud_model.specs.declared.edges.Edge.TheVariants.{Rise, Fall}
+use Rattle.bud_plans.specs.Plans.{IsPlanNumber, IsPlanWeight}
+use Rattle.bud_syntax.specs.declared.edges.Edge.{Edge}
+use Rattle.bud_syntax.specs.declared.edges.Edge.TheVariants.{Rise, Fall}
 use Rattle.cert_text.specs.Lines as lines
 use Rattle.cert_text.specs.Texts.{Reads}
 use Rattle.cert_text.specs.Writing.{edge_word, class_fields, node_fields, item_fields, flow_fields, class_line, node_line, item_line, start_line, end_line, text_of, IsTextName, IsTextClass, IsTextNode, IsTextItem, IsTextFlow, IsInTextRanges}

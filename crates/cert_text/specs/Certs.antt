@@ -1,6 +1,6 @@
 -- The numbers of a certificate.
 use Rattle.std.specs.Prelude.{map}
-use Rattle.bud_model.specs.declared.plans.Plan.{Plan}
+use Rattle.bud_plans.specs.declared.plans.Plan.{Plan}
 use Rattle.cert_text.specs.declared.certs.Cert.{Cert}
 
 -- the plan that the lines write

@@ -7,8 +7,8 @@ use Rattle.line_text.specs.Numbers.{whole, count, word}
 use Rattle.line_text.specs.Names.{name, counts}
 use Rattle.line_text.specs.Lines.{Production}
 use Rattle.bud_base.specs.declared.ids.ClassId.{ClassId}
-use Rattle.bud_model.specs.declared.edges.Edge.{Edge}
-use Rattle.bud_model.specs.declared.edges.Edge.TheVariants.{Rise, Fall}
+use Rattle.bud_syntax.specs.declared.edges.Edge.{Edge}
+use Rattle.bud_syntax.specs.declared.edges.Edge.TheVariants.{Rise, Fall}
 use Rattle.cert_text.specs.declared.certs.CertClass.{CertClass}
 use Rattle.cert_text.specs.declared.certs.CertNode.{CertNode}
 use Rattle.cert_text.specs.declared.certs.CertItem.{CertItem}

@@ -4,9 +4,9 @@ use Rattle.std.specs.List.{flat_map, AllByRecursion}
 use Rattle.std.specs.Fmt.{signed_decimal}
 use Rattle.line_text.specs.Written.{written, is_field}
 use Rattle.line_text.specs.Names.{is_name}
-use Rattle.bud_model.specs.Plans.{IsPlanNumber, IsPlanWeight}
-use Rattle.bud_model.specs.declared.edges.Edge.{Edge}
-use Rattle.bud_model.specs.declared.edges.Edge.TheVariants.{Rise, Fall}
+use Rattle.bud_plans.specs.Plans.{IsPlanNumber, IsPlanWeight}
+use Rattle.bud_syntax.specs.declared.edges.Edge.{Edge}
+use Rattle.bud_syntax.specs.declared.edges.Edge.TheVariants.{Rise, Fall}
 use Rattle.cert_text.specs.declared.certs.Cert.{Cert}
 use Rattle.cert_text.specs.declared.certs.CertClass.{CertClass}
 use Rattle.cert_text.specs.declared.certs.CertNode.{CertNode}

@@ -1,5 +1,5 @@
 use bud_base::{ClassId, Listed, Text};
-use bud_model::Edge;
+use bud_syntax::Edge;
 
 /// The line of a class.
 #[derive(Debug, Drop)]

@@ -9,7 +9,7 @@ ghost use Rattle.cert_text.specs.Lines as lines;
 
 use crate::certs::{CertClass, CertFlow, CertItem, CertNode};
 use bud_base::{ClassId, TextFault};
-use bud_model::Edge;
+use bud_syntax::Edge;
 use line_text::{
     Line, OwnedLine, Reading, count, counts, end, name, next_field, whole, wide_whole, word,
 };

@@ -4,7 +4,7 @@ ghost use Rattle.line_text.specs.Answers.{GivesText, IsFaultWithin, UnlessMemory
 ghost use Rattle.line_text.specs.Parts.{rows_of};
 ghost use Rattle.line_text.specs.Readings.{rows_left, GoesOn};
 ghost use Rattle.line_text.specs.Spans.{stop};
-ghost use Rattle.bud_model.specs.Plans.{HasPlanNumbers};
+ghost use Rattle.bud_plans.specs.Plans.{HasPlanNumbers};
 ghost use Rattle.cert_text.specs.Certs.{plan_in};
 ghost use Rattle.cert_text.specs.declared.certs.Cert.{Cert};
 ghost use Rattle.cert_text.specs.Texts.{Reads, IsBreached, IsMalformed, IsReadAnswer, HasAtMost};

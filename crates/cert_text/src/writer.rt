@@ -7,7 +7,7 @@ ghost use Rattle.cert_text.specs.Writing.{edge_word, class_line, node_line, item
 
 use crate::certs::{Cert, CertClass, CertFlow, CertItem, CertNode};
 use bud_base::Text;
-use bud_model::Edge;
+use bud_syntax::Edge;
 use itoa::Buffer;
 use line_text::{put_count, put_field, put_whole};
 use std::alloc::{AllocError, Global};

@@ -12,9 +12,9 @@ use Rattle.bud_flow.specs.Flows.{StandsAtNodes, IsBalanced, IsNonNegative, item_
 use Rattle.bud_flow.specs.Arrivals.{Suit}
 use Rattle.bud_flow.proofs.SumLemmas.{sum_below-same, sum_below-add}
 use Rattle.bud_flow.proofs.Exchange.{StandsAtNodes-from_sound, gain_of-kept}
-use Rattle.bud_model.specs.Budgets.{AreWithinBounds, SuitBudgets, weight_of}
-use Rattle.bud_model.specs.Plans.{IsHolding, IsPlanNumber, HasPlanNumbers, flow_of}
-use Rattle.bud_model.specs.declared.plans.Plan.{Plan}
+use Rattle.bud_plans.specs.Budgets.{AreWithinBounds, SuitBudgets, weight_of}
+use Rattle.bud_plans.specs.Plans.{IsHolding, IsPlanNumber, HasPlanNumbers, flow_of}
+use Rattle.bud_plans.specs.declared.plans.Plan.{Plan}
 use Rattle.residual.specs.Arcs.{arc_at, limited_arc, open_arc, start_arc, end_arc}
 use Rattle.residual.specs.Networks.{Network, AreReduced, IsLawful, Fits, item_flow_at, start_flow_at, end_flow_at}
 use Rattle.residual.specs.Balances.{HasRoom, IsSettled}

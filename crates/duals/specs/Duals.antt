@@ -4,7 +4,7 @@ use Rattle.bud_base.specs.Paths.{item_at}
 use Rattle.bud_base.specs.declared.problems.Item.{Item}
 use Rattle.bud_base.specs.declared.problems.Problem.{Problem}
 use Rattle.bud_flow.specs.Sums.{number_at}
-use Rattle.bud_model.specs.declared.plans.Plan.{Plan}
+use Rattle.bud_plans.specs.declared.plans.Plan.{Plan}
 use Rattle.residual.specs.Networks.{Network, item_flow_at, start_flow_at, end_flow_at}
 
 -- what the potentials gain along an item

@@ -1,7 +1,7 @@
 ghost use Rattle.std.specs.Prelude.{◌≡◌, IfOk};
 ghost use Rattle.bud_base.specs.Soundness.{IsSound};
-ghost use Rattle.bud_model.specs.Budgets.{AreBest};
-ghost use Rattle.bud_model.specs.Plans.{IsHolding, IsPlanOf, HasPlanNumbers};
+ghost use Rattle.bud_plans.specs.Budgets.{AreBest};
+ghost use Rattle.bud_plans.specs.Plans.{IsHolding, IsPlanOf, HasPlanNumbers};
 ghost use Rattle.residual.specs.Networks.{Fits};
 ghost use Rattle.residual.specs.Balances.{IsSettled};
 ghost use Rattle.duals.specs.Duals.{HasBudgets, HasPotentials, HasFlows};
@@ -9,7 +9,7 @@ ghost use Rattle.duals.specs.Duals.{HasBudgets, HasPotentials, HasFlows};
 use crate::budgets::{budgets_by, weight_of};
 use crate::readings::{arrivals_of, end_flows_of, item_flows_of, start_flows_of};
 use bud_base::{Problem, Times};
-use bud_model::Plan;
+use bud_plans::Plan;
 use residual::Net;
 use std::alloc::{AllocError, Global};
 

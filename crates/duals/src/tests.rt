@@ -5,7 +5,7 @@ ghost use Rattle.bud_base.specs.Soundness.{IsSound};
 
 use crate::plan_of;
 use bud_base::{End, Item, Listed, NodeId, Problem, Start, Steps};
-use bud_model::Plan;
+use bud_plans::Plan;
 use flow_solver::solve;
 use least_check::{Least, LeastCheck};
 use residual::Net;

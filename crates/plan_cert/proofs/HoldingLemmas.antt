@@ -7,10 +7,10 @@ use Rattle.bud_base.specs.Soundness.{IsSound}
 use Rattle.bud_base.specs.declared.problems.Problem.{Problem}
 use Rattle.bud_flow.specs.Sums.{number_at}
 use Rattle.bud_flow.specs.Flows.{IsFlowOf, IsNonNegative, IsBalanced}
-use Rattle.bud_model.specs.Budgets.{IsWithinBounds, AreWithinBounds, SuitBudgets, AreBest}
-use Rattle.bud_model.specs.Plans.{flow_of}
-use Rattle.bud_model.specs.declared.plans.Plan.{Plan}
-use Rattle.bud_model.proofs.Duality.{AreBest-from_plan}
+use Rattle.bud_plans.specs.Budgets.{IsWithinBounds, AreWithinBounds, SuitBudgets, AreBest}
+use Rattle.bud_plans.specs.Plans.{flow_of}
+use Rattle.bud_plans.specs.declared.plans.Plan.{Plan}
+use Rattle.bud_plans.proofs.Duality.{AreBest-from_plan}
 use Rattle.cert_text.specs.Certs.{plan_in}
 use Rattle.plan_cert.specs.Failures.{AllBelow}
 use Rattle.plan_cert.specs.Raw.{HasCounts, HasFlows, IsKeptAt, IsNumbersAnswer, OnHolds}

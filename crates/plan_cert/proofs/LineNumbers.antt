@@ -3,7 +3,7 @@ use Rattle.std.proofs.Common.{◌≡◌, ℕ, ℤ, ◌<◌, List, length, map, s
 use Rattle.std.specs.Prelude.{All, pos}
 use Rattle.std.proofs.lemmas.List.{length-map}
 use Rattle.bud_flow.specs.Sums.{number_at}
-use Rattle.bud_model.specs.Plans.{IsPlanNumber}
+use Rattle.bud_plans.specs.Plans.{IsPlanNumber}
 
 -- a number of a list whose numbers are in range
 pub IsPlanNumber-at : {A : Type 0} (lines : List A) (number_of : A → ℤ) (k : ℕ) (number : ℤ) → All IsPlanNumber (map number_of lines) → k < length lines

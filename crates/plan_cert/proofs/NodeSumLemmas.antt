@@ -11,8 +11,8 @@ use Rattle.plan_cert.specs.Failures.{IsFailure}
 use Rattle.plan_cert.proofs.FailureLemmas.{IsFailure-same}
 use Rattle.bud_base.specs.declared.problems.Problem.{Problem}
 use Rattle.bud_flow.specs.Sums.{sum_at, number_at}
-use Rattle.bud_model.specs.Plans.{IsPlanNumber, HasPlanNumbers}
-use Rattle.bud_model.specs.declared.plans.Plan.{Plan}
+use Rattle.bud_plans.specs.Plans.{IsPlanNumber, HasPlanNumbers}
+use Rattle.bud_plans.specs.declared.plans.Plan.{Plan}
 use Rattle.plan_cert.specs.NodeSums.{IsNodeSum, AreSums, items_sum, inflow_sum, excess_sum}
 
 -- a number is taken from the sum of one node

@@ -11,8 +11,8 @@ use Rattle.std.specs.List.{AllByRecursion}
 use Rattle.bud_base.specs.Paths.{item_at, start_at, end_at}
 use Rattle.bud_base.specs.Soundness.{IsSound}
 use Rattle.bud_base.specs.declared.problems.Problem.{Problem}
-use Rattle.bud_model.specs.Plans.{IsPlanNumber, HasPlanNumbers, IsHolding}
-use Rattle.bud_model.specs.declared.plans.Plan.{Plan}
+use Rattle.bud_plans.specs.Plans.{IsPlanNumber, HasPlanNumbers, IsHolding}
+use Rattle.bud_plans.specs.declared.plans.Plan.{Plan}
 use Rattle.line_text.specs.Names.{is_name}
 use Rattle.line_text.proofs.PrintedLaws.{field_decimal}
 use Rattle.cert_text.specs.Certs.{plan_in}

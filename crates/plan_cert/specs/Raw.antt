@@ -4,9 +4,9 @@ use Rattle.bud_base.specs.declared.problems.Problem.{Problem}
 use Rattle.bud_flow.specs.Sums.{number_at}
 use Rattle.bud_flow.specs.Flows.{IsNonNegative, IsBalanced, flow_into, flow_out_of, value_of}
 use Rattle.bud_flow.specs.Arrivals.{SuitsItem, SuitsStart, SuitsEnd}
-use Rattle.bud_model.specs.Budgets.{IsWithinBounds, AreWithinBounds, SuitBudgets, budget_in, weight_of}
-use Rattle.bud_model.specs.Plans.{IsHolding, flow_of}
-use Rattle.bud_model.specs.declared.plans.Plan.{Plan}
+use Rattle.bud_plans.specs.Budgets.{IsWithinBounds, AreWithinBounds, SuitBudgets, budget_in, weight_of}
+use Rattle.bud_plans.specs.Plans.{IsHolding, flow_of}
+use Rattle.bud_plans.specs.declared.plans.Plan.{Plan}
 use Rattle.plan_cert.specs.Lines.{IsNodeLine, IsItemLine, IsStartLine, IsEndLine}
 use Rattle.plan_cert.specs.Failures.{AllBelow, IsFirstFailure}
 use Rattle.cert_text.specs.Certs.{plan_in}

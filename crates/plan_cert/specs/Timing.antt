@@ -1,7 +1,7 @@
 -- The first arrival that doesn't suit.
 use Rattle.std.specs.Prelude.{length}
 use Rattle.bud_base.specs.declared.problems.Problem.{Problem}
-use Rattle.bud_model.specs.declared.plans.Plan.{Plan}
+use Rattle.bud_plans.specs.declared.plans.Plan.{Plan}
 use Rattle.plan_cert.specs.Failures.{AllBelow, IsFirstFailure}
 use Rattle.plan_cert.specs.Raw.{HasItemArrival, HasStartArrival, HasEndArrival}
 use Rattle.plan_cert.specs.declared.answers.CertFault.{CertFault}

@@ -3,9 +3,9 @@ use Rattle.std.specs.Prelude.{◌≡◌, ℕ, ℤ, pos, negsuc, ◌+ℤ◌, ◌*
 use Rattle.bud_base.specs.declared.problems.Problem.{Problem}
 use Rattle.bud_flow.specs.Sums.{sum_below}
 use Rattle.bud_flow.specs.Flows.{value_of}
-use Rattle.bud_model.specs.Budgets.{weight_of}
-use Rattle.bud_model.specs.Plans.{flow_of}
-use Rattle.bud_model.specs.declared.plans.Plan.{Plan}
+use Rattle.bud_plans.specs.Budgets.{weight_of}
+use Rattle.bud_plans.specs.Plans.{flow_of}
+use Rattle.bud_plans.specs.declared.plans.Plan.{Plan}
 use Rattle.plan_cert.specs.Raw.{IsWrongWeight}
 use Rattle.plan_cert.specs.declared.answers.CertAnswer.{CertAnswer}
 use Rattle.plan_cert.specs.declared.answers.CertAnswer.TheVariants.{Holds, Fault}

@@ -1,7 +1,7 @@
 ghost use Rattle.std.specs.Prelude.{◌≡◌, length, MatchOption};
 ghost use Rattle.bud_base.specs.Soundness.{IsSound};
-ghost use Rattle.bud_model.specs.Budgets.{AreBest, weight_of};
-ghost use Rattle.bud_model.specs.Plans.{HasPlanNumbers, ProvesBudgets, flow_of};
+ghost use Rattle.bud_plans.specs.Budgets.{AreBest, weight_of};
+ghost use Rattle.bud_plans.specs.Plans.{HasPlanNumbers, ProvesBudgets, flow_of};
 ghost use Rattle.cert_text.specs.Certs.{plan_in};
 ghost use Rattle.plan_cert.specs.Raw.{HasCounts, IsNumbersAnswer, IsRawAnswer, IsRawCert, OnHolds, IfHolds};
 ghost use Rattle.plan_cert.specs.Timing.{IsLate};

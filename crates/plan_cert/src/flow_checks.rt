@@ -1,6 +1,6 @@
 ghost use Rattle.std.specs.Prelude.{◌≤ℤ◌, length, MatchOption};
 ghost use Rattle.bud_base.specs.Soundness.{IsSound};
-ghost use Rattle.bud_model.specs.Plans.{HasPlanNumbers};
+ghost use Rattle.bud_plans.specs.Plans.{HasPlanNumbers};
 ghost use Rattle.cert_text.specs.Certs.{plan_in};
 ghost use Rattle.plan_cert.specs.Failures.{IsFailure};
 ghost use Rattle.plan_cert.specs.Raw.{HasCounts, HasFlows, IsNegativeFlow, IsFlowAt, IsStartFlowAt, IsEndFlowAt};

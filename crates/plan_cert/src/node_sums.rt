@@ -1,7 +1,7 @@
 ghost use Rattle.std.specs.Prelude.{◌≡◌, ◌==◌, ℕ, pos, ◌+ℤ◌, ◌-ℤ◌, ◌<◌, ◌^◌, length, if◌then◌else◌};
 ghost use Rattle.bud_base.specs.Soundness.{IsSound};
 ghost use Rattle.bud_flow.specs.Sums.{number_at};
-ghost use Rattle.bud_model.specs.Plans.{IsPlanNumber, HasPlanNumbers};
+ghost use Rattle.bud_plans.specs.Plans.{IsPlanNumber, HasPlanNumbers};
 ghost use Rattle.cert_text.specs.Certs.{plan_in};
 ghost use Rattle.plan_cert.specs.Failures.{IsFailure};
 ghost use Rattle.plan_cert.specs.NodeSums.{IsNodeSum, AreSums, items_sum, inflow_sum, excess_sum};

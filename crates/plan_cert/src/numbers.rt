@@ -1,6 +1,6 @@
 ghost use Rattle.std.specs.Prelude.{◌≡◌, ◌<◌, length};
 ghost use Rattle.bud_flow.specs.Sums.{number_at};
-ghost use Rattle.bud_model.specs.Plans.{IsPlanNumber, HasPlanNumbers};
+ghost use Rattle.bud_plans.specs.Plans.{IsPlanNumber, HasPlanNumbers};
 ghost use Rattle.cert_text.specs.Certs.{plan_in};
 
 use cert_text::Cert;

@@ -1,6 +1,6 @@
 ghost use Rattle.std.specs.Prelude.{◌≡◌, length, map, decimal, IfOk};
 ghost use Rattle.bud_base.specs.Soundness.{IsSound};
-ghost use Rattle.bud_model.specs.Plans.{IsPlanOf, HasPlanNumbers, IsHolding};
+ghost use Rattle.bud_plans.specs.Plans.{IsPlanOf, HasPlanNumbers, IsHolding};
 ghost use Rattle.cert_text.specs.Certs.{plan_in};
 ghost use Rattle.cert_text.specs.Writing.{IsInTextRanges};
 ghost use Rattle.plan_cert.specs.Failures.{AllBelow};
@@ -8,7 +8,7 @@ ghost use Rattle.plan_cert.specs.Lines.{IsNodeLine, IsItemLine, IsStartLine, IsE
 ghost use Rattle.plan_cert.specs.Raw.{HasRawLines, IsRawCert};
 
 use bud_base::{ClassId, End, Item, NodeId, Problem, Start, Text};
-use bud_model::Plan;
+use bud_plans::Plan;
 use cert_text::{Cert, CertClasses, CertFlow, CertFlows, CertItem, CertItems, CertNode, CertNodes};
 use std::alloc::{AllocError, Global};
 

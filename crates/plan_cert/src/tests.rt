@@ -1,6 +1,6 @@
 use crate::{Sums, check_raw, raw_cert_of, read_cert, write_cert};
 use bud_base::{End, Item, Listed, NodeId, Problem, Start};
-use bud_model::Plan;
+use bud_plans::Plan;
 use std::process::Abort;
 use std::test::Fail;
 

@@ -1,7 +1,7 @@
 ghost use Rattle.std.specs.Prelude.{◌≡◌, ◌↔◌, ◌<◌, ◌≤◌, ◌≤ℤ◌, ◌+ℤ◌, length, IsTrue, MatchOption};
 ghost use Rattle.bud_base.specs.Soundness.{IsSound};
-ghost use Rattle.bud_model.specs.Budgets.{IsWithinBounds, SuitBudgets};
-ghost use Rattle.bud_model.specs.Plans.{IsPlanNumber, HasPlanNumbers};
+ghost use Rattle.bud_plans.specs.Budgets.{IsWithinBounds, SuitBudgets};
+ghost use Rattle.bud_plans.specs.Plans.{IsPlanNumber, HasPlanNumbers};
 ghost use Rattle.cert_text.specs.Certs.{plan_in};
 ghost use Rattle.plan_cert.specs.Failures.{IsFailure};
 ghost use Rattle.plan_cert.specs.Raw.{HasCounts, HasItemArrival, HasStartArrival, HasEndArrival};

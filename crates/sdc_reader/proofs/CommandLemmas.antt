@@ -3,7 +3,7 @@ use Rattle.std.proofs.Common.{◌≡◌, ℕ, List, [], ◌∷◌, Ok, Err, sym,
 use Rattle.tcl_words.specs.Characters.{characters}
 use Rattle.tcl_words.specs.declared.words.Word.{Word}
 use Rattle.tcl_words.proofs.LineLemmas.{commands_once}
-use Rattle.bud_model.specs.declared.constraints.SdcCommand.{SdcCommand}
+use Rattle.bud_syntax.specs.declared.constraints.SdcCommand.{SdcCommand}
 use Rattle.sdc_reader.specs.declared.faults.SdcFault.TheVariants.{Syntax, UnknownCommand, UnknownOption, Value, NoMemory}
 use Rattle.sdc_reader.specs.Answers.{Answer, UnlessMemory, IsSyntax}
 use Rattle.sdc_reader.specs.Brackets.{Opens, opened}

@@ -10,8 +10,8 @@ use Rattle.tcl_words.specs.declared.words.WordKind.TheVariants.{Bare, Quoted, Br
 use Rattle.tcl_words.specs.Characters.{characters}
 use Rattle.tcl_words.proofs.PartLemmas.{brackets_of, commands_of}
 use Rattle.tcl_words.proofs.LineLemmas.{commands_once}
-use Rattle.bud_model.specs.declared.constraints.SdcCommand.{SdcCommand}
-use Rattle.bud_model.specs.declared.constraints.SdcFile.{SdcFile}
+use Rattle.bud_syntax.specs.declared.constraints.SdcCommand.{SdcCommand}
+use Rattle.bud_syntax.specs.declared.constraints.SdcFile.{SdcFile}
 use Rattle.sdc_reader.specs.declared.faults.SdcFault.{SdcFault}
 use Rattle.sdc_reader.specs.declared.faults.SdcFault.TheVariants.{Syntax, UnknownCommand, UnknownOption, Value, NoMemory}
 use Rattle.sdc_reader.specs.declared.given.TimeUnit.TheVariants.{Nanoseconds}

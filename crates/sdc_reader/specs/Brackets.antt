@@ -3,8 +3,8 @@ use Rattle.std.specs.Prelude.{◌≡◌, ℕ, ◌+◌, true, false, Option, Some
 use Rattle.std.specs.Str.{bytes_eq}
 use Rattle.tcl_words.specs.Commands.{AreBracketWords}
 use Rattle.tcl_words.specs.declared.words.Word.{Word}
-use Rattle.bud_model.specs.declared.constraints.Object.{Object}
-use Rattle.bud_model.specs.declared.constraints.Object.TheVariants as object
+use Rattle.bud_syntax.specs.declared.constraints.Object.{Object}
+use Rattle.bud_syntax.specs.declared.constraints.Object.TheVariants as object
 use Rattle.sdc_reader.specs.declared.faults.SdcFault.{SdcFault}
 use Rattle.sdc_reader.specs.declared.faults.SdcFault.TheVariants.{Syntax, UnknownCommand, UnknownOption}
 use Rattle.sdc_reader.specs.declared.opened.Found.{Found}

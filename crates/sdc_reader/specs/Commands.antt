@@ -2,11 +2,11 @@
 use Rattle.std.specs.Prelude.{ℕ, ℤ, pos, ◌&&◌, not, Bool, true, false, Option, Some, None, is_none, List, [], ◌∷◌, Ok, Err, codes, if◌then◌else◌}
 use Rattle.std.specs.Str.{bytes_eq}
 use Rattle.tcl_words.specs.declared.words.Word.{Word}
-use Rattle.bud_model.specs.declared.constraints.SdcCommand.{SdcCommand}
-use Rattle.bud_model.specs.declared.constraints.Object.{Object}
-use Rattle.bud_model.specs.declared.constraints.SdcCommand.TheVariants as timing
-use Rattle.bud_model.specs.declared.edges.Edge.{Edge}
-use Rattle.bud_model.specs.declared.edges.Edge.TheVariants.{Rise, Fall}
+use Rattle.bud_syntax.specs.declared.constraints.SdcCommand.{SdcCommand}
+use Rattle.bud_syntax.specs.declared.constraints.Object.{Object}
+use Rattle.bud_syntax.specs.declared.constraints.SdcCommand.TheVariants as timing
+use Rattle.bud_syntax.specs.declared.edges.Edge.{Edge}
+use Rattle.bud_syntax.specs.declared.edges.Edge.TheVariants.{Rise, Fall}
 use Rattle.sdc_reader.specs.declared.faults.SdcFault.TheVariants.{Syntax, UnknownCommand}
 use Rattle.sdc_reader.specs.declared.opened.Inside.{Inside}
 use Rattle.sdc_reader.specs.declared.opened.Inside.TheVariants.{Empty, Refused, Command}

@@ -2,8 +2,8 @@
 use Rattle.std.specs.Prelude.{◌≡◌, ℕ, Some, None, List, [], ◌∷◌, ◌++◌, map, Result, Ok, Err}
 use Rattle.tcl_words.specs.Commands.{Splits}
 use Rattle.tcl_words.specs.declared.words.Word.{Word}
-use Rattle.bud_model.specs.declared.constraints.SdcCommand.{SdcCommand}
-use Rattle.bud_model.specs.declared.constraints.SdcFile.{SdcFile}
+use Rattle.bud_syntax.specs.declared.constraints.SdcCommand.{SdcCommand}
+use Rattle.bud_syntax.specs.declared.constraints.SdcFile.{SdcFile}
 use Rattle.sdc_reader.specs.declared.faults.SdcFault.{SdcFault}
 use Rattle.sdc_reader.specs.declared.faults.SdcFault.TheVariants.{Syntax, UnknownCommand, UnknownOption, Value, NoMemory}
 use Rattle.sdc_reader.specs.declared.given.TimeUnit.{TimeUnit}

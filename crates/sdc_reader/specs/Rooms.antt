@@ -10,7 +10,7 @@ use Rattle.sdc_reader.specs.declared.opened.Inside.TheVariants.{Refused}
 use Rattle.sdc_reader.specs.declared.opened.Opened.{Opened}
 use Rattle.sdc_reader.specs.declared.opened.ObjectCommand.{ObjectCommand}
 use Rattle.sdc_reader.specs.declared.opened.ObjectCommand.TheVariants.{Get, AllInputs, AllOutputs, AllClocks, List as ListOf}
-use Rattle.bud_model.specs.declared.constraints.Object.TheVariants as object
+use Rattle.bud_syntax.specs.declared.constraints.Object.TheVariants as object
 use Rattle.sdc_reader.specs.declared.brackets.Head.{Head}
 use Rattle.sdc_reader.specs.declared.brackets.Head.TheVariants.{Nothing, Misnamed, Named}
 use Rattle.sdc_reader.specs.Words.{is_bracket}

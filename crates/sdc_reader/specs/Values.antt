@@ -5,8 +5,8 @@ use Rattle.text_scan.specs.declared.decimals.Round.{Round}
 use Rattle.text_scan.specs.declared.decimals.Round.TheVariants.{Down}
 use Rattle.tcl_words.specs.declared.words.Word.{Word}
 use Rattle.tcl_words.specs.Lists.{elements}
-use Rattle.bud_model.specs.declared.constraints.Object.{Object}
-use Rattle.bud_model.specs.declared.constraints.Object.TheVariants as object
+use Rattle.bud_syntax.specs.declared.constraints.Object.{Object}
+use Rattle.bud_syntax.specs.declared.constraints.Object.TheVariants as object
 use Rattle.sdc_reader.specs.declared.faults.SdcFault.{SdcFault}
 use Rattle.sdc_reader.specs.declared.faults.SdcFault.TheVariants.{Syntax, Value}
 use Rattle.sdc_reader.specs.declared.opened.Found.{Found}

@@ -11,7 +11,7 @@ use crate::lists::find_names;
 use crate::opened::{Finds, Found, Inside, NameKind, ObjectCommand, Opened};
 use crate::words::{copied, is_bracket, is_option};
 use bud_base::Listed;
-use bud_model::Object;
+use bud_syntax::Object;
 use std::alloc::Global;
 use tcl_words::{Command, TclFault, Word, bracket_words};
 

@@ -12,7 +12,7 @@ use crate::options::{CommandKind, SdcOption, kind_of};
 use crate::values::name_in;
 use crate::words::copied;
 use bud_base::{Listed, Text};
-use bud_model::{Edge, Object, Objects, SdcCommand};
+use bud_syntax::{Edge, Object, Objects, SdcCommand};
 use std::alloc::Global;
 use tcl_words::Word;
 

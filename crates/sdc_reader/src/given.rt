@@ -1,6 +1,6 @@
 use crate::options::{CommandKind, SdcOption, Seen};
 use bud_base::Text;
-use bud_model::{Objects, SdcCommand};
+use bud_syntax::{Objects, SdcCommand};
 use text_scan::Round;
 
 /// The unit of times in force.

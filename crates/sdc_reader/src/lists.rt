@@ -7,7 +7,7 @@ use crate::faults::SdcFault;
 use crate::opened::{Found, NameKind};
 use crate::words::{copied, is_bare};
 use bud_base::Text;
-use bud_model::Object;
+use bud_syntax::Object;
 use std::alloc::Global;
 use tcl_words::{Word, next_element};
 

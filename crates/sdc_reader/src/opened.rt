@@ -1,6 +1,6 @@
 use crate::faults::SdcFault;
 use bud_base::Listed;
-use bud_model::Object;
+use bud_syntax::Object;
 use tcl_words::Word;
 
 /// An object, and where the word begins that names it.

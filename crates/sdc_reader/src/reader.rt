@@ -1,6 +1,6 @@
 ghost use Rattle.std.specs.Prelude.{◌≡◌, ◌<◌, ◌^◌, ℕ, List, Result, length, map, Ok};
-ghost use Rattle.bud_model.specs.declared.constraints.SdcCommand.{SdcCommand as Single};
-ghost use Rattle.bud_model.specs.declared.constraints.SdcFile.{SdcFile as File};
+ghost use Rattle.bud_syntax.specs.declared.constraints.SdcCommand.{SdcCommand as Single};
+ghost use Rattle.bud_syntax.specs.declared.constraints.SdcFile.{SdcFile as File};
 ghost use Rattle.sdc_reader.specs.declared.faults.SdcFault.{SdcFault as Fault};
 ghost use Rattle.std.specs.List.{AllByRecursion};
 ghost use Rattle.sdc_reader.specs.Answers.{Gives, UnlessMemory, IsSyntax};
@@ -15,7 +15,7 @@ use crate::commands::{command, single};
 use crate::faults::SdcFault;
 use crate::given::{Line, TimeUnit};
 use bud_base::Text;
-use bud_model::{SdcCommand, SdcCommands, SdcFile};
+use bud_syntax::{SdcCommand, SdcCommands, SdcFile};
 use std::alloc::Global;
 use tcl_words::{Command, TclFault, commands};
 

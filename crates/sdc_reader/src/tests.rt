@@ -1,5 +1,5 @@
 use crate::{SdcFault, read_command, read_sdc};
-use bud_model::{Edge, Object, SdcCommand, SdcFile};
+use bud_syntax::{Edge, Object, SdcCommand, SdcFile};
 use std::alloc::Global;
 use std::process::Abort;
 

@@ -14,7 +14,7 @@ use crate::numbers::{count, time};
 use crate::opened::{Finds, Found, Inside, NameKind, ObjectCommand, Opened};
 use crate::words::{copied, is_bare, is_clock_name, refuse};
 use bud_base::{Listed, Text};
-use bud_model::{Object, Objects};
+use bud_syntax::{Object, Objects};
 use std::alloc::Global;
 use tcl_words::{Word, WordKind, next_element};
 use text_scan::Round;

@@ -2,7 +2,7 @@
 use Rattle.std.proofs.Common.{◌≡◌, ℕ, ◌≤◌, Option, Some, None, Result, Ok, Err, List, length, sym, ap, ◌∙◌}
 use Rattle.std.proofs.lemmas.Option.{same_Some}
 use Rattle.text_scan.proofs.Binds.{same_value}
-use Rattle.bud_model.specs.declared.delays.SdfFile.{SdfFile}
+use Rattle.bud_syntax.specs.declared.delays.SdfFile.{SdfFile}
 use Rattle.line_text.specs.Parts.{Part}
 use Rattle.sdf_lex.specs.Tokens.{tokens_of}
 use Rattle.sdf_reader.specs.LeftOut.{first_left_out}

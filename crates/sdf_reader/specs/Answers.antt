@@ -1,6 +1,6 @@
 -- What the answers of `read_sdf` mean.
 use Rattle.std.specs.Prelude.{◌≡◌, ℕ, ◌≤◌, List, length, None, Result, Ok, Err}
-use Rattle.bud_model.specs.declared.delays.SdfFile.{SdfFile}
+use Rattle.bud_syntax.specs.declared.delays.SdfFile.{SdfFile}
 use Rattle.sdf_lex.specs.Tokens.{tokens_of}
 use Rattle.sdf_reader.specs.LeftOut.{first_left_out}
 use Rattle.sdf_reader.specs.Files.{Reads, IsBreached, IsMalformed, IsLeftOut}

@@ -1,9 +1,9 @@
 -- The entries of cells, as rows. The rows that are read so far are carried along, as the least breach is.
 use Rattle.std.specs.Prelude.{ℕ, codes, List, [], ◌∷◌, ◌++◌, length, Option, Some, None, if◌then◌else◌}
 use Rattle.text_scan.specs.Left.{Left, ◌>>=◌}
-use Rattle.bud_model.specs.declared.delays.SdfKind.{SdfKind}
-use Rattle.bud_model.specs.declared.delays.SdfKind.TheVariants.{Cell}
-use Rattle.bud_model.specs.declared.delays.SdfRow.{SdfRow}
+use Rattle.bud_syntax.specs.declared.delays.SdfKind.{SdfKind}
+use Rattle.bud_syntax.specs.declared.delays.SdfKind.TheVariants.{Cell}
+use Rattle.bud_syntax.specs.declared.delays.SdfRow.{SdfRow}
 use Rattle.sdf_lex.specs.Tokens.{Token}
 use Rattle.sdf_reader.specs.Marks.{is_word, next_is, closing, opened, starts, string}
 use Rattle.sdf_reader.specs.Names.{name}

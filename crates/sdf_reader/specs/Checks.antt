@@ -1,9 +1,9 @@
 -- Entries of timing checks.
 use Rattle.std.specs.Prelude.{ℕ, ◌||◌, Bool, codes, List, Option, Some, None, if◌then◌else◌}
 use Rattle.text_scan.specs.Left.{Left, ◌>>=◌, next}
-use Rattle.bud_model.specs.declared.edges.Edge.{Edge}
-use Rattle.bud_model.specs.declared.delays.SdfKind.{SdfKind}
-use Rattle.bud_model.specs.declared.delays.SdfKind.TheVariants.{Setup}
+use Rattle.bud_syntax.specs.declared.edges.Edge.{Edge}
+use Rattle.bud_syntax.specs.declared.delays.SdfKind.{SdfKind}
+use Rattle.bud_syntax.specs.declared.delays.SdfKind.TheVariants.{Setup}
 use Rattle.sdf_lex.specs.Tokens.{Token}
 use Rattle.sdf_reader.specs.Marks.{is_keyword, opening, closing, opened, starts}
 use Rattle.sdf_reader.specs.Nests.{balanced, lists, before_last}

@@ -1,10 +1,10 @@
 -- Ports, and entries of delays.
 use Rattle.std.specs.Prelude.{ℕ, codes, List, Option, Some, None, if◌then◌else◌}
 use Rattle.text_scan.specs.Left.{Left, ◌>>=◌, next}
-use Rattle.bud_model.specs.declared.edges.Edge.{Edge}
-use Rattle.bud_model.specs.declared.edges.Edge.TheVariants.{Rise, Fall}
-use Rattle.bud_model.specs.declared.delays.SdfKind.{SdfKind}
-use Rattle.bud_model.specs.declared.delays.SdfKind.TheVariants.{Delay, Wire}
+use Rattle.bud_syntax.specs.declared.edges.Edge.{Edge}
+use Rattle.bud_syntax.specs.declared.edges.Edge.TheVariants.{Rise, Fall}
+use Rattle.bud_syntax.specs.declared.delays.SdfKind.{SdfKind}
+use Rattle.bud_syntax.specs.declared.delays.SdfKind.TheVariants.{Delay, Wire}
 use Rattle.sdf_lex.specs.Tokens.{Token}
 use Rattle.sdf_reader.specs.Marks.{is_keyword, opens, next_is, opening, closing, opened, starts}
 use Rattle.sdf_reader.specs.Names.{name}

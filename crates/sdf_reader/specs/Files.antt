@@ -1,7 +1,7 @@
 -- Delay files: what is in the grammar, with which value.
 use Rattle.std.specs.Prelude.{◌≡◌, ℕ, codes, List, [], Option, Some, None}
 use Rattle.text_scan.specs.Left.{Left, ◌>>=◌, end_of}
-use Rattle.bud_model.specs.declared.delays.SdfFile.{SdfFile}
+use Rattle.bud_syntax.specs.declared.delays.SdfFile.{SdfFile}
 use Rattle.sdf_lex.specs.Tokens.{Token, tokens_of}
 use Rattle.sdf_reader.specs.Marks.{opened, closing}
 use Rattle.sdf_reader.specs.Cells.{Scope, many, cell}

@@ -1,8 +1,8 @@
 -- What entries say, before their names are put into printed form.
 use Rattle.std.specs.Prelude.{ℕ, List, Option}
-use Rattle.bud_model.specs.declared.edges.Edge.{Edge}
-use Rattle.bud_model.specs.declared.delays.SdfKind.{SdfKind}
-use Rattle.bud_model.specs.declared.delays.SdfKind.TheVariants.{Cell, Delay, Wire, Setup}
+use Rattle.bud_syntax.specs.declared.edges.Edge.{Edge}
+use Rattle.bud_syntax.specs.declared.delays.SdfKind.{SdfKind}
+use Rattle.bud_syntax.specs.declared.delays.SdfKind.TheVariants.{Cell, Delay, Wire, Setup}
 use Rattle.sdf_reader.specs.Names.{printed}
 use Rattle.sdf_reader.specs.declared.said.Port.{Port}
 use Rattle.sdf_reader.specs.declared.said.Said.{Said}

@@ -15,7 +15,7 @@ use crate::names::name;
 use crate::rows::{Entry, listed, many, with_row};
 use crate::said::Said;
 use bud_base::TextFault;
-use bud_model::SdfRows;
+use bud_syntax::SdfRows;
 use line_text::Reading;
 use std::alloc::Global;
 

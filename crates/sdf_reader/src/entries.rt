@@ -11,7 +11,7 @@ use crate::names::name;
 use crate::nests::before_last;
 use crate::said::{Port, Said};
 use crate::values::values;
-use bud_model::Edge;
+use bud_syntax::Edge;
 use line_text::Reading;
 use sdf_lex::Lexeme;
 

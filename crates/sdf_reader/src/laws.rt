@@ -1,7 +1,7 @@
 //! Laws of delay files. Each holds of all values, and its function does nothing.
 
 ghost use Rattle.std.specs.Prelude.{◌≡◌, ◌<◌, ℕ, List, Option, Some, true, length};
-ghost use Rattle.bud_model.specs.declared.delays.SdfFile.{SdfFile};
+ghost use Rattle.bud_syntax.specs.declared.delays.SdfFile.{SdfFile};
 ghost use Rattle.text_scan.specs.Left.{Left};
 ghost use Rattle.text_scan.specs.Decimals.{Decimal, IsLongest, ComesTo, spelling};
 ghost use Rattle.text_scan.specs.declared.decimals.Round.{Round};

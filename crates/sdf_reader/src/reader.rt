@@ -2,7 +2,7 @@ ghost use Rattle.std.specs.Prelude.{◌≡◌, ◌<◌, ◌≤◌, ◌^◌, ℕ,
 ghost use Rattle.text_scan.specs.Gives.{Gives};
 ghost use Rattle.line_text.specs.Answers.{GivesText, IsFaultWithin};
 ghost use Rattle.line_text.specs.Spans.{stop};
-ghost use Rattle.bud_model.specs.declared.delays.SdfFile.{SdfFile};
+ghost use Rattle.bud_syntax.specs.declared.delays.SdfFile.{SdfFile};
 ghost use Rattle.sdf_lex.specs.Tokens.{tokens_of};
 ghost use Rattle.sdf_reader.specs.Lefts.{tokens_left, Advances};
 ghost use Rattle.sdf_reader.specs.Settings.{set_of};
@@ -19,7 +19,7 @@ use crate::marks::{closing, opened, token};
 use crate::rows::{copied, many};
 use crate::settings::Settings;
 use bud_base::TextFault;
-use bud_model::{SdfFile, SdfRows};
+use bud_syntax::{SdfFile, SdfRows};
 use line_text::{Reading, Span};
 use std::alloc::Global;
 

@@ -13,7 +13,7 @@ use crate::marks::{begins_open, closing, opened};
 use crate::names::printed;
 use crate::said::{Said, kind};
 use bud_base::{Text, TextFault};
-use bud_model::{SdfRow, SdfRows};
+use bud_syntax::{SdfRow, SdfRows};
 use line_text::Reading;
 use std::alloc::{AllocError, Global};
 

@@ -2,7 +2,7 @@ ghost use Rattle.std.specs.Prelude.{◌≡◌, IfOk};
 ghost use Rattle.sdf_reader.specs.Said.{kind_of};
 
 use crate::names::printed;
-use bud_model::{Edge, SdfKind};
+use bud_syntax::{Edge, SdfKind};
 use std::alloc::{AllocError, Global};
 
 /// A port, and the edge that stands at it; the name is as in the text.

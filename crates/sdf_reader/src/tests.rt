@@ -1,5 +1,5 @@
 use crate::{SdfFault, read_sdf};
-use bud_model::{Edge, SdfFile, SdfKind, SdfRow};
+use bud_syntax::{Edge, SdfFile, SdfKind, SdfRow};
 use std::alloc::Global;
 use std::process::Abort;
 

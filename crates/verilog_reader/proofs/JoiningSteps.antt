@@ -9,7 +9,7 @@ use Rattle.verilog_reader.specs.Answers.{Fails}
 use Rattle.verilog_reader.specs.declared.readings.Stop.{Stop}
 use Rattle.verilog_reader.specs.declared.readings.Stop.TheVariants.{Syntax, NoMemory}
 use Rattle.std.proofs.lemmas.Bool.{and_parts}
-use Rattle.bud_model.specs.declared.modules.Piece.{Piece}
+use Rattle.bud_syntax.specs.declared.modules.Piece.{Piece}
 
 abbrev pub joint_size : Joint → ℕ
 joint_size j = size j.rest

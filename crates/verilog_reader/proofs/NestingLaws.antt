@@ -24,7 +24,7 @@ use Rattle.verilog_reader.specs.Joining.{Joint, is_done, wanted_turn, behind_tur
 use Rattle.verilog_reader.proofs.SizeLemmas.{sign_less, piece_less}
 use Rattle.verilog_reader.proofs.JoiningSteps.{joint_size, start}
 use Rattle.verilog_reader.proofs.TableSteps.{bytes_same}
-use Rattle.bud_model.specs.declared.modules.Piece.{Piece}
+use Rattle.bud_syntax.specs.declared.modules.Piece.{Piece}
 
 -- ---- what is read is an expression
 -- behind an expression, with so many braces open: what closes them, with more expressions behind commas

@@ -1,6 +1,6 @@
 -- The turns of the loop that reads a file.
 use Rattle.std.proofs.Common.{◌≡◌, ℕ, ◌<◌, true, false, Option, Some, None, List, [], ◌∷◌, ◌++◌, refl, sym, ap, ◌∙◌}
-use Rattle.bud_model.specs.declared.modules.Module.{Module}
+use Rattle.bud_syntax.specs.declared.modules.Module.{Module}
 use Rattle.verilog_lex.specs.declared.kinds.Token.{Token}
 use Rattle.verilog_reader.specs.Left.{Left, size}
 use Rattle.verilog_reader.specs.Modules.{earlier}

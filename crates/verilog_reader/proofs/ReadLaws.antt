@@ -2,7 +2,7 @@
 use Rattle.std.proofs.Common.{◌≡◌, ℕ, Option, Some, None, List, Result, Ok, Err, sym, ap, ◌∙◌, subst}
 use Rattle.std.specs.Prelude.{slice_range, ◌+◌}
 use Rattle.std.proofs.lemmas.Option.{same_Some}
-use Rattle.bud_model.specs.declared.modules.Module.{Module}
+use Rattle.bud_syntax.specs.declared.modules.Module.{Module}
 use Rattle.verilog_lex.specs.Tokens.{AreTokens, IsRefused}
 use Rattle.verilog_lex.specs.declared.kinds.Token.{Token}
 use Rattle.verilog_lex.proofs.TokenLaws.{one_list, not_both}

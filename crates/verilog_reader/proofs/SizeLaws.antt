@@ -41,13 +41,13 @@ use Rattle.verilog_reader.specs.declared.faults.VerilogFault.{VerilogFault}
 use Rattle.verilog_reader.proofs.SizeLemmas.{next_less, tested, sign_less, id_less, num_less}
 use Rattle.verilog_reader.proofs.NestingLaws.{turn_less}
 use Rattle.verilog_reader.proofs.JoiningSteps.{start}
-use Rattle.bud_model.specs.declared.modules.Dir.{Dir}
-use Rattle.bud_model.specs.declared.modules.Range.{Range}
-use Rattle.bud_model.specs.declared.modules.NetDecl.{NetDecl}
-use Rattle.bud_model.specs.declared.modules.Piece.{Piece}
-use Rattle.bud_model.specs.declared.modules.Link.{Link}
-use Rattle.bud_model.specs.declared.modules.Assign.{Assign}
-use Rattle.bud_model.specs.declared.modules.Module.{Module}
+use Rattle.bud_syntax.specs.declared.modules.Dir.{Dir}
+use Rattle.bud_syntax.specs.declared.modules.Range.{Range}
+use Rattle.bud_syntax.specs.declared.modules.NetDecl.{NetDecl}
+use Rattle.bud_syntax.specs.declared.modules.Piece.{Piece}
+use Rattle.bud_syntax.specs.declared.modules.Link.{Link}
+use Rattle.bud_syntax.specs.declared.modules.Assign.{Assign}
+use Rattle.bud_syntax.specs.declared.modules.Module.{Module}
 
 -- ---- single words
 title_less : (expected : List ℕ) (s t : Left) → title expected s ≡ Some t → size t < size s

@@ -13,7 +13,7 @@ use Rattle.verilog_reader.specs.Numbers.{number, num, value_up_to}
 use Rattle.verilog_reader.specs.Constants.{constant, spelled, digits, digits_from, behind_digits, is_digit_of, radix_in, is_width}
 use Rattle.verilog_reader.specs.Pieces.{piece, net, select, select_end, is_number}
 use Rattle.verilog_reader.specs.declared.trees.Named.{Named}
-use Rattle.bud_model.specs.declared.modules.Piece.{Piece}
+use Rattle.bud_syntax.specs.declared.modules.Piece.{Piece}
 
 in_less : (ts : List Token) (s : Left) (r : Word × Left) → next_in ts s ≡ Some r → size r.1 < length ts
 in_less [] s r read = absurd (cc)

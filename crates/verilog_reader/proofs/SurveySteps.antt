@@ -4,12 +4,12 @@ use Rattle.std.specs.Prelude.{filter}
 use Rattle.std.specs.Borrow.{Bor}
 use Rattle.std.specs.List.{list_all, flat_map}
 use Rattle.std.proofs.lemmas.Option.{same_Some}
-use Rattle.bud_model.specs.declared.modules.Assign.{Assign}
-use Rattle.bud_model.specs.declared.modules.Instance.{Instance}
-use Rattle.bud_model.specs.declared.modules.NetDecl.{NetDecl}
+use Rattle.bud_syntax.specs.declared.modules.Assign.{Assign}
+use Rattle.bud_syntax.specs.declared.modules.Instance.{Instance}
+use Rattle.bud_syntax.specs.declared.modules.NetDecl.{NetDecl}
 use Rattle.verilog_reader.specs.declared.trees.Assembled.{Assembled}
 use Rattle.verilog_reader.specs.declared.trees.Tree.{Tree}
-use Rattle.bud_model.specs.declared.modules.Port.{Port}
+use Rattle.bud_syntax.specs.declared.modules.Port.{Port}
 use Rattle.verilog_reader.specs.Modules.{assembled, is_formed, module_of, breaches, item_assigns, item_instances, header_declarations, item_declarations, item_nets, is_listed, first_declared, listed_again, declared_again, undirected, earlier, earliest, port_of, repeats_port, agrees}
 use Rattle.verilog_reader.specs.Tables.{listed_by, declared_by, IsTable, IsDeclaring, AddsNets, seen}
 use Rattle.verilog_reader.specs.Surveys.{all_declarations, surveyed}

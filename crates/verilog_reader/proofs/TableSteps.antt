@@ -12,8 +12,8 @@ use Rattle.std.proofs.lemmas.List.Concat.{flat_map-append}
 use Rattle.text_scan.proofs.Binds.{by_test}
 use Rattle.verilog_reader.specs.Modules.{Declaration, or_before, declaration_of, header_declarations, is_listed, first_declared, one_if, listed_again, declared_again, undirected, earlier, earliest, declarations_in, nets_in, port_of, repeats_port, agrees}
 use Rattle.verilog_reader.specs.Tables.{with_first, listed_by, joined, declared_by, IsTable, are_listed, IsDeclaring, AddsNets, seen}
-use Rattle.bud_model.specs.declared.modules.NetDecl.{NetDecl}
-use Rattle.bud_model.specs.declared.modules.Range.{Range}
+use Rattle.bud_syntax.specs.declared.modules.NetDecl.{NetDecl}
+use Rattle.bud_syntax.specs.declared.modules.Range.{Range}
 use Rattle.verilog_reader.specs.declared.readings.Stop.{Stop}
 use Rattle.verilog_reader.specs.declared.readings.Stop.TheVariants.{Syntax, NoMemory}
 use Rattle.verilog_reader.specs.declared.trees.Named.{Named}

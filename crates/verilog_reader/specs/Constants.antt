@@ -9,8 +9,8 @@ use Rattle.verilog_lex.specs.declared.kinds.Token.{Token}
 use Rattle.verilog_reader.specs.Left.{Left, Production, Word, next, breached, with_tokens}
 use Rattle.verilog_reader.specs.Words.{sign}
 use Rattle.verilog_reader.specs.Numbers.{number, value_up_to}
-use Rattle.bud_model.specs.declared.modules.Piece.{Piece}
-use Rattle.bud_model.specs.declared.modules.Piece.TheVariants.{Const}
+use Rattle.bud_syntax.specs.declared.modules.Piece.{Piece}
+use Rattle.bud_syntax.specs.declared.modules.Piece.TheVariants.{Const}
 
 -- how many digits the base has: b, o, d or h in either case
 abbrev pub radix_of : List ℕ → Option ℕ

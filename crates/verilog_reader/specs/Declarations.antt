@@ -8,8 +8,8 @@ use Rattle.verilog_reader.specs.Words.{sign, is_sign, is_word}
 use Rattle.verilog_reader.specs.Names.{id}
 use Rattle.verilog_reader.specs.Numbers.{maybe_range}
 use Rattle.verilog_reader.specs.Lists.{separated}
-use Rattle.bud_model.specs.declared.modules.Dir.{Dir}
-use Rattle.bud_model.specs.declared.modules.Dir.TheVariants.{Input, Output, Inout}
+use Rattle.bud_syntax.specs.declared.modules.Dir.{Dir}
+use Rattle.bud_syntax.specs.declared.modules.Dir.TheVariants.{Input, Output, Inout}
 use Rattle.verilog_reader.specs.declared.trees.Declared.{Declared}
 use Rattle.verilog_reader.specs.declared.trees.HeaderPort.{HeaderPort}
 

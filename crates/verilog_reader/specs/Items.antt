@@ -13,9 +13,9 @@ use Rattle.verilog_reader.specs.Joining.{expr}
 use Rattle.verilog_reader.specs.Lists.{separated}
 use Rattle.verilog_reader.specs.Links.{cell}
 use Rattle.verilog_reader.specs.Declarations.{declared, is_dir}
-use Rattle.bud_model.specs.declared.modules.Assign.{Assign}
-use Rattle.bud_model.specs.declared.modules.Piece.{Piece}
-use Rattle.bud_model.specs.declared.modules.Piece.TheVariants.{Net, Bit, Part, Const}
+use Rattle.bud_syntax.specs.declared.modules.Assign.{Assign}
+use Rattle.bud_syntax.specs.declared.modules.Piece.{Piece}
+use Rattle.bud_syntax.specs.declared.modules.Piece.TheVariants.{Net, Bit, Part, Const}
 use Rattle.verilog_reader.specs.declared.trees.Item.{Item}
 use Rattle.verilog_reader.specs.declared.trees.Item.TheVariants.{Ports, Nets, Assigns, Cells, Skipped}
 

@@ -6,7 +6,7 @@ use Rattle.text_scan.specs.Repeat.{repeat}
 use Rattle.verilog_reader.specs.Left.{Left, Production, begins, size}
 use Rattle.verilog_reader.specs.Words.{sign, is_sign}
 use Rattle.verilog_reader.specs.Pieces.{piece}
-use Rattle.bud_model.specs.declared.modules.Piece.{Piece}
+use Rattle.bud_syntax.specs.declared.modules.Piece.{Piece}
 
 -- how many braces are open, whether an expression has to come, and what is left
 pub record Joint : Type 0 where

@@ -7,9 +7,9 @@ use Rattle.verilog_reader.specs.Words.{sign, is_sign}
 use Rattle.verilog_reader.specs.Names.{id}
 use Rattle.verilog_reader.specs.Joining.{expr}
 use Rattle.verilog_reader.specs.Lists.{separated}
-use Rattle.bud_model.specs.declared.modules.Piece.{Piece}
-use Rattle.bud_model.specs.declared.modules.Link.{Link}
-use Rattle.bud_model.specs.declared.modules.Link.TheVariants.{Named, Placed}
+use Rattle.bud_syntax.specs.declared.modules.Piece.{Piece}
+use Rattle.bud_syntax.specs.declared.modules.Link.{Link}
+use Rattle.bud_syntax.specs.declared.modules.Link.TheVariants.{Named, Placed}
 use Rattle.verilog_reader.specs.declared.trees.Cell.{Cell}
 
 -- a link ends at "," or ")"

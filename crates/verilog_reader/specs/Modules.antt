@@ -2,14 +2,14 @@
 use Rattle.std.specs.Prelude.{ℕ, ◌==◌, ◌&&◌, ◌||◌, not, nat_lt, Bool, true, false, List, [], ◌∷◌, ◌++◌, map, filter, is_some, Option, Some, None, if◌then◌else◌}
 use Rattle.std.specs.List.{list_all, list_any, flat_map}
 use Rattle.std.specs.Str.{bytes_eq}
-use Rattle.bud_model.specs.declared.modules.Dir.{Dir}
-use Rattle.bud_model.specs.declared.modules.Dir.TheVariants.{Input}
-use Rattle.bud_model.specs.declared.modules.Range.{Range}
-use Rattle.bud_model.specs.declared.modules.Port.{Port}
-use Rattle.bud_model.specs.declared.modules.NetDecl.{NetDecl}
-use Rattle.bud_model.specs.declared.modules.Assign.{Assign}
-use Rattle.bud_model.specs.declared.modules.Instance.{Instance}
-use Rattle.bud_model.specs.declared.modules.Module.{Module}
+use Rattle.bud_syntax.specs.declared.modules.Dir.{Dir}
+use Rattle.bud_syntax.specs.declared.modules.Dir.TheVariants.{Input}
+use Rattle.bud_syntax.specs.declared.modules.Range.{Range}
+use Rattle.bud_syntax.specs.declared.modules.Port.{Port}
+use Rattle.bud_syntax.specs.declared.modules.NetDecl.{NetDecl}
+use Rattle.bud_syntax.specs.declared.modules.Assign.{Assign}
+use Rattle.bud_syntax.specs.declared.modules.Instance.{Instance}
+use Rattle.bud_syntax.specs.declared.modules.Module.{Module}
 use Rattle.verilog_reader.specs.declared.trees.Named.{Named}
 use Rattle.verilog_reader.specs.declared.trees.Declared.{Declared}
 use Rattle.verilog_reader.specs.declared.trees.HeaderPort.{HeaderPort}

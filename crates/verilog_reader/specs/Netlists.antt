@@ -11,7 +11,7 @@ use Rattle.verilog_reader.specs.Left.{Left, Production, begins, size}
 use Rattle.verilog_reader.specs.Words.{is_sign, is_word}
 use Rattle.verilog_reader.specs.Sources.{tree, directive, primitive}
 use Rattle.verilog_reader.specs.Modules.{assembled, earlier}
-use Rattle.bud_model.specs.declared.modules.Module.{Module}
+use Rattle.bud_syntax.specs.declared.modules.Module.{Module}
 use Rattle.verilog_reader.specs.declared.trees.Assembled.{Assembled}
 use Rattle.verilog_reader.specs.declared.trees.Named.{Named}
 use Rattle.verilog_reader.specs.Breaches.{Breach}

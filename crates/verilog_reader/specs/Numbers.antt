@@ -6,7 +6,7 @@ use Rattle.text_scan.specs.Left.{◌>>=◌}
 use Rattle.verilog_lex.specs.Kinds.{numbers}
 use Rattle.verilog_reader.specs.Left.{Production, Word, next, begins, breached}
 use Rattle.verilog_reader.specs.Words.{sign, is_sign}
-use Rattle.bud_model.specs.declared.modules.Range.{Range}
+use Rattle.bud_syntax.specs.declared.modules.Range.{Range}
 
 -- a number, as a word
 unfoldable pub number : Production Word

@@ -8,8 +8,8 @@ use Rattle.verilog_reader.specs.Words.{sign, is_sign}
 use Rattle.verilog_reader.specs.Names.{id}
 use Rattle.verilog_reader.specs.Numbers.{num}
 use Rattle.verilog_reader.specs.Constants.{constant}
-use Rattle.bud_model.specs.declared.modules.Piece.{Piece}
-use Rattle.bud_model.specs.declared.modules.Piece.TheVariants.{Net, Bit, Part}
+use Rattle.bud_syntax.specs.declared.modules.Piece.{Piece}
+use Rattle.bud_syntax.specs.declared.modules.Piece.TheVariants.{Net, Bit, Part}
 
 -- what is behind the first number in brackets: "]", or ":" num "]"
 unfoldable pub select_end : List ℕ → ℕ → Production Piece

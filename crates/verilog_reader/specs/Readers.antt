@@ -1,6 +1,6 @@
 -- What the functions of the reader answer.
 use Rattle.std.specs.Prelude.{◌≡◌, ℕ, ◌+◌, ◌≤◌, nat_lt, length, slice_range, Bool, true, false, List, Option, Some, None, Result, Ok, Err}
-use Rattle.bud_model.specs.declared.modules.Module.{Module}
+use Rattle.bud_syntax.specs.declared.modules.Module.{Module}
 use Rattle.verilog_lex.specs.declared.kinds.Token.{Token}
 use Rattle.verilog_words.specs.LeftOut.{IsFirstLeftOut}
 use Rattle.verilog_words.specs.declared.words.Word.{Word}

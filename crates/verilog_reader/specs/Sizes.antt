@@ -1,11 +1,11 @@
 -- How long the lists of a netlist are at most.
 use Rattle.std.specs.Prelude.{ℕ, ◌≤◌, length, All, List}
-use Rattle.bud_model.specs.declared.modules.Piece.{Piece}
-use Rattle.bud_model.specs.declared.modules.Link.{Link}
-use Rattle.bud_model.specs.declared.modules.Link.TheVariants.{Named, Placed}
-use Rattle.bud_model.specs.declared.modules.Assign.{Assign}
-use Rattle.bud_model.specs.declared.modules.Instance.{Instance}
-use Rattle.bud_model.specs.declared.modules.Module.{Module}
+use Rattle.bud_syntax.specs.declared.modules.Piece.{Piece}
+use Rattle.bud_syntax.specs.declared.modules.Link.{Link}
+use Rattle.bud_syntax.specs.declared.modules.Link.TheVariants.{Named, Placed}
+use Rattle.bud_syntax.specs.declared.modules.Assign.{Assign}
+use Rattle.bud_syntax.specs.declared.modules.Instance.{Instance}
+use Rattle.bud_syntax.specs.declared.modules.Module.{Module}
 
 abbrev pub pieces_of : Link → List Piece
 pieces_of (Named _ pieces) = pieces

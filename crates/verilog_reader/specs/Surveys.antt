@@ -1,7 +1,7 @@
 -- What a header and a body say of ports and nets.
 use Rattle.std.specs.Prelude.{◌&&◌, not, List, [], ◌++◌, map, filter, Option, Some, None, Result, Ok, Err, if◌then◌else◌}
 use Rattle.std.specs.List.{list_all, flat_map}
-use Rattle.bud_model.specs.declared.modules.NetDecl.{NetDecl}
+use Rattle.bud_syntax.specs.declared.modules.NetDecl.{NetDecl}
 use Rattle.verilog_reader.specs.Modules.{Declaration, header_declarations, item_declarations, item_nets, is_listed, first_declared, listed_again, declared_again, undirected, earliest, port_of, repeats_port, agrees}
 use Rattle.verilog_reader.specs.declared.readings.Stop.{Stop}
 use Rattle.verilog_reader.specs.declared.trees.HeaderPort.{HeaderPort}

@@ -1,7 +1,7 @@
 -- What a table knows of names: nothing, or that it is a port's, with the port's first declaration so far.
 use Rattle.std.specs.Prelude.{◌≡◌, ℕ, Bool, true, false, not, List, ◌++◌, filter, is_some, Option, Some, None, Result, Ok, Err}
 use Rattle.std.specs.List.{list_all}
-use Rattle.bud_model.specs.declared.modules.NetDecl.{NetDecl}
+use Rattle.bud_syntax.specs.declared.modules.NetDecl.{NetDecl}
 use Rattle.std.specs.Map.{lookup}
 use Rattle.std.specs.Str.{bytes_eq}
 use Rattle.std.specs.Borrow.{Bor}

@@ -12,7 +12,7 @@ use crate::readings::Stop;
 use crate::surveys::Survey;
 use crate::tables::{PortTable, earlier, enter, known};
 use crate::trees::{Declared, HeaderPort, Item, Named};
-use bud_model::{Dir, NetDecl, Nets, Port, Ports, Range};
+use bud_syntax::{Dir, NetDecl, Nets, Port, Ports, Range};
 use std::alloc::Global;
 
 /// The second, where there is one.

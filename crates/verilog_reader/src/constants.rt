@@ -10,7 +10,7 @@ use crate::numbers::{breached, number, value_up_to};
 use crate::readings::{Reading, Stop};
 use crate::spellings::Spelling;
 use crate::words::sign;
-use bud_model::Piece;
+use bud_syntax::Piece;
 use verilog_lex::Kind;
 
 /// How many digits a base has that begins so.

@@ -15,7 +15,7 @@ use crate::readings::{Reading, Stop};
 use crate::spellings::Spelling;
 use crate::trees::{Declared, Header, HeaderPort, Named, Names};
 use crate::words::{begins_sign, is_word, sign};
-use bud_model::Dir;
+use bud_syntax::Dir;
 use std::alloc::Global;
 
 /// The direction that the word names.

@@ -16,7 +16,7 @@ use crate::readings::{Reading, Stop};
 use crate::spellings::Spelling;
 use crate::trees::{CellList, Item};
 use crate::words::{begins_word, is_word, sign, title};
-use bud_model::{Assign, Assigns, Piece};
+use bud_syntax::{Assign, Assigns, Piece};
 use std::alloc::Global;
 
 /// Declarations of ports.

@@ -8,7 +8,7 @@ use crate::joints::Joint;
 use crate::pieces::piece;
 use crate::readings::{Reading, Stop};
 use crate::words::{begins_sign, sign};
-use bud_model::{Piece, Pieces};
+use bud_syntax::{Piece, Pieces};
 use std::alloc::Global;
 
 /// Where an expression has to come: a brace that opens, or a piece.

@@ -1,7 +1,7 @@
 //! Laws of netlists. Each holds of all values, and its function does nothing.
 
 ghost use Rattle.std.specs.Prelude.{◌≡◌, List, Some};
-ghost use Rattle.bud_model.specs.declared.modules.Piece.{Piece};
+ghost use Rattle.bud_syntax.specs.declared.modules.Piece.{Piece};
 ghost use Rattle.verilog_reader.specs.Left.{Left};
 ghost use Rattle.verilog_reader.specs.Pieces.{IsExpr};
 ghost use Rattle.verilog_reader.specs.Joining.{expr};

@@ -12,7 +12,7 @@ use crate::names::id;
 use crate::readings::{Reading, Stop};
 use crate::trees::Cell;
 use crate::words::{begins_sign, is_sign, sign};
-use bud_model::{Link, LinkList, Pieces};
+use bud_syntax::{Link, LinkList, Pieces};
 use std::alloc::Global;
 
 /// Whether a link ends here.

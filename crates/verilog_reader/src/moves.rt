@@ -9,7 +9,7 @@ use crate::readings::Stop;
 use crate::surveys::Survey;
 use crate::trees::{Assembled, Cell, CellList, Item, Tree};
 use bud_base::Text;
-use bud_model::{Assign, Assigns, Instance, Instances, Module};
+use bud_syntax::{Assign, Assigns, Instance, Instances, Module};
 use std::alloc::Global;
 
 /// The instances of one module.

@@ -12,7 +12,7 @@ use crate::readings::{Reading, Stop};
 use crate::sources::{directive, primitive, tree};
 use crate::trees::{Assembled, Named};
 use crate::words::{begins_sign, begins_word};
-use bud_model::{Module, Modules};
+use bud_syntax::{Module, Modules};
 use std::alloc::Global;
 use verilog_lex::Token;
 

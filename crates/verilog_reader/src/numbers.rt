@@ -8,7 +8,7 @@ use crate::left::next_word;
 use crate::readings::{Reading, Stop};
 use crate::spellings::Spelling;
 use crate::words::{begins_sign, sign};
-use bud_model::Range;
+use bud_syntax::Range;
 use text_scan::lesser_of;
 use verilog_lex::Kind;
 

@@ -11,7 +11,7 @@ use crate::numbers::num;
 use crate::readings::{Reading, Stop};
 use crate::words::{begins_sign, sign};
 use bud_base::Text;
-use bud_model::Piece;
+use bud_syntax::Piece;
 use std::alloc::Global;
 use verilog_lex::Kind;
 

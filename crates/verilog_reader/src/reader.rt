@@ -1,5 +1,5 @@
 ghost use Rattle.std.specs.Prelude.{◌≡◌, ◌^◌, ◌<◌, ◌≤◌, ℕ, List, length, All, IfOk, Some, None, Ok, Err};
-ghost use Rattle.bud_model.specs.declared.modules.Module.{Module};
+ghost use Rattle.bud_syntax.specs.declared.modules.Module.{Module};
 ghost use Rattle.verilog_lex.specs.Tokens.{AreTokens, IsWithin};
 ghost use Rattle.verilog_lex.specs.declared.kinds.Token.{Token};
 ghost use Rattle.verilog_words.specs.declared.words.Word.{Word};
@@ -15,7 +15,7 @@ use crate::netlists::netlist;
 use crate::readers::Found;
 use crate::readings::Stop;
 use crate::trees::Named;
-use bud_model::Modules;
+use bud_syntax::Modules;
 use std::alloc::Global;
 use verilog_lex::{LexFault, Token, tokens};
 use verilog_words::first_left_out;

@@ -1,5 +1,5 @@
 use crate::trees::Named;
-use bud_model::Modules;
+use bud_syntax::Modules;
 
 /// A netlist in the loose form: its modules, the fault of theirs that begins first, and the least offset of a number
 /// out of its range.

@@ -1,5 +1,5 @@
 use crate::trees::Named;
-use bud_model::{Nets, Ports};
+use bud_syntax::{Nets, Ports};
 
 /// What a header and a body say of ports and nets.
 #[derive(Drop)]

@@ -1,5 +1,5 @@
 use crate::{VerilogFault, read_verilog};
-use bud_model::{Dir, Module, Piece, Pieces, Range};
+use bud_syntax::{Dir, Module, Piece, Pieces, Range};
 use std::alloc::Global;
 use std::process::Abort;
 use std::test::Fail;

@@ -1,7 +1,7 @@
 //! What a module is made of as it stands in the text.
 
 use bud_base::{Listed, Text};
-use bud_model::{Assigns, Dir, LinkList, Module, Range};
+use bud_syntax::{Assigns, Dir, LinkList, Module, Range};
 
 /// An identifier: its name, and the offset at which it begins.
 #[derive(Debug, Drop)]

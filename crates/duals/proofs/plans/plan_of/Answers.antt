@@ -6,7 +6,7 @@ use Rattle.bud_base.specs.Paths.{item_at}
 use Rattle.bud_base.specs.declared.problems.Item.{Item}
 use Rattle.bud_base.specs.declared.problems.Problem.{Problem}
 use Rattle.bud_flow.specs.Sums.{number_at}
-use Rattle.bud_model.proofs.Duality.{AreBest-from_plan}
+use Rattle.bud_plans.proofs.Duality.{AreBest-from_plan}
 use Rattle.duals.specs.Duals.{budget_by}
 use Rattle.duals.specs.Terms.{IsSmallTotal}
 use Rattle.duals.proofs.TermLemmas.{AreTerms-same}

@@ -1,4 +1,4 @@
-use Rattle.bud_model.specs.Budgets.{IsWithinBounds}
+use Rattle.bud_plans.specs.Budgets.{IsWithinBounds}
 use Rattle.cert_text.specs.Certs.{plan_in}
 use Rattle.plan_cert.specs.Failures.{AllBelow}
 use Rattle.plan_cert.proofs.timing_checks.first_unbounded.Given as goal

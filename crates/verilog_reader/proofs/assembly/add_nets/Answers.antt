@@ -1,7 +1,7 @@
 use Rattle.std.proofs.Common.{◌∷◌, [], List, Ok, Err, subst}
 use Rattle.std.proofs.lemmas.List.{take_all}
 use Rattle.std.proofs.lemmas.Result.{err_from_is_err_and}
-use Rattle.bud_model.specs.declared.modules.NetDecl.{NetDecl}
+use Rattle.bud_syntax.specs.declared.modules.NetDecl.{NetDecl}
 use Rattle.verilog_reader.specs.Modules.{nets_in}
 use Rattle.verilog_reader.specs.Tables.{known, AddsNets}
 use Rattle.verilog_reader.proofs.TableSteps.{nets_stopped, nets_added, nets_flat, adds_none}

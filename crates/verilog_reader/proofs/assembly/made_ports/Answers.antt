@@ -1,6 +1,6 @@
 use Rattle.std.proofs.Common.{◌≡◌, ℕ, ◌++◌, ◌∷◌, [], List, Option, map, take, not, sym, ap, ◌∙◌, rules}
 use Rattle.std.specs.Prelude.{is_some}
-use Rattle.bud_model.specs.declared.modules.Port.{Port}
+use Rattle.bud_syntax.specs.declared.modules.Port.{Port}
 use Rattle.verilog_reader.specs.Modules.{earlier, earliest, undirected, one_if, port_of, dir_in, range_in}
 use Rattle.verilog_reader.specs.Tables.{known, seen, declared_by}
 use Rattle.verilog_reader.specs.declared.trees.Declared.{Declared}

@@ -17,10 +17,10 @@ use Rattle.bud_flow.proofs.SumLemmas.{sum_below-le, sum_below-add}
 use Rattle.bud_base.proofs.Joining.{Joins-append}
 use Rattle.bud_base.proofs.Sums.{sum_along-append, sum_along-le_room}
 use Rattle.bud_flow.proofs.Exchange.{StandsAtNodes-from_sound, gain_of-kept}
-use Rattle.bud_model.specs.Plans.{IsHolding, flow_of}
-use Rattle.bud_model.specs.declared.plans.Plan.{Plan}
-use Rattle.bud_model.specs.Budgets.{AreWithinBounds, Fit, AreBest, weight_of, budget_in, SuitBudgets}
-use Rattle.bud_model.proofs.Greatest.{IsGreatest, IsGreatest-exists, IsGreatest-each}
+use Rattle.bud_plans.specs.Plans.{IsHolding, flow_of}
+use Rattle.bud_plans.specs.declared.plans.Plan.{Plan}
+use Rattle.bud_plans.specs.Budgets.{AreWithinBounds, Fit, AreBest, weight_of, budget_in, SuitBudgets}
+use Rattle.bud_plans.proofs.Greatest.{IsGreatest, IsGreatest-exists, IsGreatest-each}
 
 -- ---- items one after another
 -- delays of at least 0 add up to at least 0

@@ -4,9 +4,9 @@ ghost use Rattle.std.specs.Prelude.{ℤ, List, ◌≤ℤ◌};
 ghost use Rattle.bud_base.specs.Soundness.{IsSound};
 ghost use Rattle.bud_base.specs.declared.problems.Problem.{Problem};
 ghost use Rattle.bud_flow.specs.Flows.{Flow, IsBalanced, value_of};
-ghost use Rattle.bud_model.specs.Budgets.{AreWithinBounds, Fit, AreBest, weight_of, SuitBudgets};
-ghost use Rattle.bud_model.specs.Plans.{IsHolding};
-ghost use Rattle.bud_model.specs.declared.plans.Plan.{Plan};
+ghost use Rattle.bud_plans.specs.Budgets.{AreWithinBounds, Fit, AreBest, weight_of, SuitBudgets};
+ghost use Rattle.bud_plans.specs.Plans.{IsHolding};
+ghost use Rattle.bud_plans.specs.declared.plans.Plan.{Plan};
 
 /// No budgets that fit weigh more than any balanced flow is worth.
 pub fn weight_is_at_most_value()

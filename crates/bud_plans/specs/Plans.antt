@@ -2,8 +2,8 @@
 use Rattle.std.specs.Prelude.{◌≡◌, ℤ, pos, negsuc, ◌≤ℤ◌, List, length, All}
 use Rattle.bud_base.specs.declared.problems.Problem.{Problem}
 use Rattle.bud_flow.specs.Flows.{Flow, IsBalanced, value_of}
-use Rattle.bud_model.specs.Budgets.{AreWithinBounds, SuitBudgets, weight_of}
-use Rattle.bud_model.specs.declared.plans.Plan.{Plan}
+use Rattle.bud_plans.specs.Budgets.{AreWithinBounds, SuitBudgets, weight_of}
+use Rattle.bud_plans.specs.declared.plans.Plan.{Plan}
 
 -- the flow is balanced, and its value is what the budgets weigh
 pub record ProvesBudgets (p : Problem) (budgets : List ℤ) (flow : Flow) : Type 0 where

@@ -1,0 +1,10 @@
+pub mod ClassLaws
+pub mod StepLaws
+pub mod NameLaws
+pub mod Lineages
+pub mod DesignNames
+pub mod Leading
+pub mod ReachingLaws
+pub mod ArcOrders
+pub mod NodeLaws
+pub mod RequirementRanges

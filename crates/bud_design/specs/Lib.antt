@@ -1,0 +1,15 @@
+pub mod Lists
+pub mod Names
+pub mod Designs
+pub mod DesignRules
+pub mod Orders
+pub mod Arcs
+pub mod Clocks
+pub mod Exceptions
+pub mod TimingPaths
+pub mod Policies
+pub mod Layers
+pub mod Correspondences
+pub mod TimingRules
+pub mod ConstraintRules
+pub mod Reaching

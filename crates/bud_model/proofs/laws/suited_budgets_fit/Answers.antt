@@ -1,5 +1,0 @@
-use Rattle.bud_model.proofs.Duality.{Fit-from_arrivals}
-use Rattle.bud_model.proofs.laws.suited_budgets_fit.Goals as goal
-
-pub returns : goal.returns
-returns c = Fit-from_arrivals

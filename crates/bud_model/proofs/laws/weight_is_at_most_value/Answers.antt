@@ -1,5 +1,0 @@
-use Rattle.bud_model.proofs.Duality.{weight_of-value}
-use Rattle.bud_model.proofs.laws.weight_is_at_most_value.Goals as goal
-
-pub returns : goal.returns
-returns c = weight_of-value
