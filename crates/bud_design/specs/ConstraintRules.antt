@@ -1,5 +1,6 @@
 -- What all resolved constraints keep, so that a layering can be built without a look at the timing.
-use Rattle.std.specs.Prelude.{◌≡◌, ℕ, ◌<◌, ◌≤◌, nat_lt, ℤ, pos, negsuc, ◌≤ℤ◌, true, length, All, AllPairs, Option, Some, None}
+use Rattle.std.specs.Prelude.{◌≡◌, ℕ, ◌<◌, ◌≤◌, nat_lt, true, length, All, AllPairs, Option, Some, None}
+pub use Rattle.bud_syntax.specs.Ranges.{IsReadTime}
 use Rattle.bud_design.specs.declared.clocks.Marks.{Marks}
 use Rattle.bud_design.specs.declared.clocks.Exception.{Exception}
 use Rattle.bud_design.specs.declared.clocks.ExceptionKind.{ExceptionKind}
@@ -7,11 +8,6 @@ use Rattle.bud_design.specs.declared.clocks.ExceptionKind.TheVariants.{FalsePath
 use Rattle.bud_design.specs.declared.clocks.Constraints.{Constraints}
 use Rattle.bud_design.specs.Clocks.{IsSoundClock}
 use Rattle.bud_design.specs.Orders.{launch_before}
-
--- a time of the readers' range
-pub record IsReadTime (time : ℤ) : Type 0 where
-  pub low : negsuc 999999999 ≤ℤ time
-  pub high : time ≤ℤ pos 1000000000
 
 -- a multicycle counts 1 to 1,000 periods, and a maximum delay is a read time
 abbrev pub IsSoundKind : ExceptionKind → Type 0
