@@ -6,3 +6,4 @@ pub mod OpenLemmas
 pub mod ListedLemmas
 pub mod FileLemmas
 pub mod CommandLemmas
+mod RangeLemmas

@@ -1,5 +1,5 @@
 -- What the words of a command give, from left to right.
-use Rattle.std.specs.Prelude.{◌||◌, ◌&&◌, not, Bool, true, false, Option, Some, None, is_none, List, [], ◌∷◌, Ok, Err, codes, if◌then◌else◌}
+use Rattle.std.specs.Prelude.{◌||◌, ◌&&◌, not, Bool, true, false, Option, Some, None, is_none, List, [], ◌∷◌, ◌++◌, Ok, Err, codes, if◌then◌else◌}
 use Rattle.std.specs.Str.{bytes_eq}
 use Rattle.text_scan.specs.declared.decimals.Round.TheVariants.{Up, Down}
 use Rattle.sdc_reader.specs.declared.faults.SdcFault.TheVariants.{Syntax, UnknownOption}
@@ -7,7 +7,7 @@ use Rattle.sdc_reader.specs.declared.opened.Opened.{Opened}
 use Rattle.sdc_reader.specs.declared.options.CommandKind.{CommandKind}
 use Rattle.sdc_reader.specs.declared.options.CommandKind.TheVariants.{Version, Units, Design, CreateClock, InputDelay, OutputDelay, FalsePath, Multicycle, MaxDelay}
 use Rattle.sdc_reader.specs.declared.options.SdcOption.{SdcOption}
-use Rattle.sdc_reader.specs.declared.options.SdcOption.TheVariants.{Time, Resistance, Capacitance, Current, Voltage, Power, Period, Name, Waveform, Comment, Clock, ClockFall, Max, Min, AddDelay, Setup, Hold, Start, End, From, To}
+use Rattle.sdc_reader.specs.declared.options.SdcOption.TheVariants.{Time, Resistance, Capacitance, Current, Voltage, Power, Period, Name, Waveform, Comment, Clock, ClockFall, Max, Min, AddDelay, Setup, Hold, Start, End, From, Through, To}
 use Rattle.sdc_reader.specs.declared.given.Setting.{Setting}
 use Rattle.sdc_reader.specs.declared.given.Given.{Given}
 use Rattle.sdc_reader.specs.declared.given.Collected.{Collected}
@@ -16,7 +16,7 @@ use Rattle.sdc_reader.specs.declared.given.Slot.TheVariants as slot
 use Rattle.sdc_reader.specs.Answers.{Answer, ◌>>=◌}
 use Rattle.sdc_reader.specs.Words.{is_option}
 use Rattle.sdc_reader.specs.Options.{option_of, takes_word, has, excludes, with_option, none_seen}
-use Rattle.sdc_reader.specs.Values.{whole, surplus_word, object_word, any, clock, time_word, count_word, clock_name_word, waveform, unit_word}
+use Rattle.sdc_reader.specs.Values.{whole, surplus_word, object_word, group_word, any, clock, time_word, count_word, clock_name_word, waveform, unit_word}
 
 -- nothing yet
 abbrev pub nothing_given : Given
@@ -32,6 +32,7 @@ nothing_given = record {
   clock = None;
   objects = None;
   from = None;
+  through = [];
   to = None;
 }
 
@@ -43,6 +44,7 @@ option_word s given Name o = clock_name_word o >>= λ x. Ok (record given { name
 option_word s given Waveform o = waveform s.unit o >>= λ x. Ok (record given { waveform = Some x })
 option_word s given Clock o = clock o >>= λ x. Ok (record given { clock = Some x })
 option_word s given From o = object_word false true o >>= λ x. Ok (record given { from = Some x })
+option_word s given Through o = group_word o >>= λ x. Ok (record given { through = given.through ++ x ∷ [] })
 option_word s given To o = object_word false true o >>= λ x. Ok (record given { to = Some x })
 option_word s given Resistance o = any o >>= λ done. Ok given
 option_word s given Capacitance o = any o >>= λ done. Ok given

@@ -57,9 +57,13 @@ edge_of true = Fall
 abbrev pub is_setup : Bool → Bool → Bool
 is_setup least greatest = not (least && not greatest)
 
--- an exception has a from-part or a to-part
+abbrev pub is_empty : {X : Type 0} → List X → Bool
+is_empty [] = true
+is_empty (x ∷ xs) = false
+
+-- an exception has a from-part, a through group or a to-part
 abbrev pub has_part : ℕ → Given → Answer (Unit {0})
-has_part at given = if is_none given.from && is_none given.to then Err (Syntax at) else Ok tt
+has_part at given = if is_none given.from && (is_empty given.through && is_none given.to) then Err (Syntax at) else Ok tt
 
 unfoldable pub clock_line : ℕ → Given → Answer Line
 clock_line at given = do
@@ -84,19 +88,19 @@ output_delay_line at given = do
 unfoldable pub false_path_line : ℕ → Given → Answer Line
 false_path_line at given = do
   done ← has_part at given
-  Ok (does.Timing (timing.FalsePath (is_setup given.seen.hold given.seen.setup) given.from given.to))
+  Ok (does.Timing (timing.FalsePath (is_setup given.seen.hold given.seen.setup) given.from given.through given.to))
 
 unfoldable pub multicycle_line : ℕ → Given → Answer Line
 multicycle_line at given = do
   count ← needed at given.count
   done ← has_part at given
-  Ok (does.Timing (timing.Multicycle count (is_setup given.seen.hold given.seen.setup) given.seen.start given.from given.to))
+  Ok (does.Timing (timing.Multicycle count (is_setup given.seen.hold given.seen.setup) given.seen.start given.from given.through given.to))
 
 unfoldable pub max_delay_line : ℕ → Given → Answer Line
 max_delay_line at given = do
   amount ← needed at given.amount
   done ← has_part at given
-  Ok (does.Timing (timing.MaxDelay amount given.from given.to))
+  Ok (does.Timing (timing.MaxDelay amount given.from given.through given.to))
 
 abbrev pub unit_line : Option TimeUnit → Line
 unit_line None = does.Nothing

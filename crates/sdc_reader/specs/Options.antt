@@ -4,7 +4,7 @@ use Rattle.std.specs.Str.{bytes_eq}
 use Rattle.sdc_reader.specs.declared.options.CommandKind.{CommandKind}
 use Rattle.sdc_reader.specs.declared.options.CommandKind.TheVariants.{Version, Units, Design, CreateClock, InputDelay, OutputDelay, FalsePath, Multicycle, MaxDelay}
 use Rattle.sdc_reader.specs.declared.options.SdcOption.{SdcOption}
-use Rattle.sdc_reader.specs.declared.options.SdcOption.TheVariants.{Time, Resistance, Capacitance, Current, Voltage, Power, Period, Name, Waveform, Comment, Clock, ClockFall, Max, Min, AddDelay, Setup, Hold, Start, End, From, To}
+use Rattle.sdc_reader.specs.declared.options.SdcOption.TheVariants.{Time, Resistance, Capacitance, Current, Voltage, Power, Period, Name, Waveform, Comment, Clock, ClockFall, Max, Min, AddDelay, Setup, Hold, Start, End, From, Through, To}
 use Rattle.sdc_reader.specs.declared.options.Seen.{Seen}
 
 abbrev pub kind_of : List ℕ → Option CommandKind
@@ -56,9 +56,10 @@ false_path_option name =
     if bytes_eq name (codes "-setup") then Some Setup
     else (if bytes_eq name (codes "-hold") then Some Hold
     else (if bytes_eq name (codes "-from") then Some From
+    else (if bytes_eq name (codes "-through") then Some Through
     else (if bytes_eq name (codes "-to") then Some To
     else (if bytes_eq name (codes "-comment") then Some Comment
-    else None))))
+    else None)))))
 
 -- the options of set_multicycle_path
 abbrev pub multicycle_option : List ℕ → Option SdcOption
@@ -68,17 +69,19 @@ multicycle_option name =
     else (if bytes_eq name (codes "-start") then Some Start
     else (if bytes_eq name (codes "-end") then Some End
     else (if bytes_eq name (codes "-from") then Some From
+    else (if bytes_eq name (codes "-through") then Some Through
     else (if bytes_eq name (codes "-to") then Some To
     else (if bytes_eq name (codes "-comment") then Some Comment
-    else None))))))
+    else None)))))))
 
 -- the options of set_max_delay
 abbrev pub max_delay_option : List ℕ → Option SdcOption
 max_delay_option name =
     if bytes_eq name (codes "-from") then Some From
+    else (if bytes_eq name (codes "-through") then Some Through
     else (if bytes_eq name (codes "-to") then Some To
     else (if bytes_eq name (codes "-comment") then Some Comment
-    else None))
+    else None)))
 
 abbrev pub option_of : CommandKind → List ℕ → Option SdcOption
 option_of Version name = None
@@ -113,8 +116,10 @@ takes_word Hold = false
 takes_word Start = false
 takes_word End = false
 takes_word From = true
+takes_word Through = true
 takes_word To = true
 
+-- it was given, and may not be given again; only `-through` may
 abbrev pub has : Seen → SdcOption → Bool
 has seen Time = seen.time
 has seen Resistance = seen.resistance
@@ -136,6 +141,7 @@ has seen Hold = seen.hold
 has seen Start = seen.start
 has seen End = seen.end
 has seen From = seen.from
+has seen Through = false
 has seen To = seen.to
 
 abbrev pub with_option : SdcOption → Seen → Seen
@@ -159,6 +165,7 @@ with_option Hold seen = record seen { hold = true }
 with_option Start seen = record seen { start = true }
 with_option End seen = record seen { end = true }
 with_option From seen = record seen { from = true }
+with_option Through seen = seen
 with_option To seen = record seen { to = true }
 
 abbrev pub none_seen : Seen
@@ -186,4 +193,5 @@ excludes seen Hold = false
 excludes seen Start = seen.end
 excludes seen End = seen.start
 excludes seen From = false
+excludes seen Through = false
 excludes seen To = false

@@ -119,6 +119,14 @@ object_word ports named o = do
   finds ← finds_of o
   named_objects ports named finds
 
+abbrev pub some_of : ℕ → List Object → Answer (List Object)
+some_of at [] = Err (Syntax at)
+some_of at (object ∷ objects) = Ok (object ∷ objects)
+
+-- the objects of a through group, at least one
+unfoldable pub group_word : Opened → Answer (List Object)
+group_word o = object_word false true o >>= λ objects. some_of o.word.at objects
+
 abbrev pub any_inside : ℕ → Option Inside → Answer (Unit {0})
 any_inside at None = Ok tt
 any_inside at (Some Empty) = Err (Syntax at)

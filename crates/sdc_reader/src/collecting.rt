@@ -8,16 +8,17 @@ use crate::given::{Collected, Given, Setting, Slot};
 use crate::opened::Opened;
 use crate::options::{CommandKind, SdcOption, Seen, option_of};
 use crate::values::{
-    any, clock, clock_name_word, count_word, object_word, refuse_word, time_word, unit_word,
-    waveform, whole,
+    any, clock, clock_name_word, count_word, group_word, object_word, refuse_word, time_word,
+    unit_word, waveform, whole,
 };
 use crate::words::{copied, is_option};
+use bud_base::Listed;
 use std::alloc::Global;
 use text_scan::Round;
 
 impl Given {
     /// Nothing yet.
-    pub fn new() -> Given
+    pub fn new(alloc: Global) -> Given
         ensures { result ≡ nothing_given }
     {
         Given {
@@ -32,6 +33,7 @@ impl Given {
             clock: None,
             objects: None,
             from: None,
+            through: Listed::new(alloc),
             to: None,
         }
     }
@@ -58,6 +60,12 @@ fn option_word(
         SdcOption::Waveform => given.waveform = Some(waveform(alloc, setting.unit, opened)?),
         SdcOption::Clock => given.clock = Some(clock(alloc, opened)?),
         SdcOption::From => given.from = Some(object_word(alloc, false, true, opened)?),
+        SdcOption::Through => {
+            let group = group_word(alloc, opened)?;
+            if given.through.push(group).is_err() {
+                return Err(SdcFault::NoMemory);
+            }
+        }
         SdcOption::To => given.to = Some(object_word(alloc, false, true, opened)?),
         _ => any(alloc, opened)?,
     }
@@ -168,7 +176,7 @@ pub fn collect_all(alloc: Global, setting: Setting, words: &[Opened]) -> Result<
     ensures { Gives (λ last. last) result (collected_all setting (complete nothing_given) words.now) }
 {
     let mut so_far = Collected {
-        given: Given::new(),
+        given: Given::new(alloc),
         awaits: None,
     };
     for opened in words {

@@ -74,11 +74,11 @@ fn edge_of(fall: bool) -> Edge
     if fall { Edge::Fall } else { Edge::Rise }
 }
 
-/// An exception has a from-part or a to-part.
+/// An exception has a from-part, a through group or a to-part.
 fn has_part(at: usize, given: &Given) -> Result<(), SdcFault>
     ensures { Gives (λ done. done) result (has_part at given.now) }
 {
-    if given.from.is_none() && given.to.is_none() {
+    if given.from.is_none() && given.through.is_empty() && given.to.is_none() {
         return Err(SdcFault::Syntax(at));
     }
     Ok(())
@@ -146,6 +146,7 @@ fn false_path_line(at: usize, given: Given) -> Result<Line, SdcFault>
     Ok(Line::Timing(SdcCommand::FalsePath {
         setup: !(seen.hold && !seen.setup),
         from: given.from,
+        through: given.through,
         to: given.to,
     }))
 }
@@ -162,6 +163,7 @@ fn multicycle_line(at: usize, given: Given) -> Result<Line, SdcFault>
         setup: !(seen.hold && !seen.setup),
         by_launch: seen.start,
         from: given.from,
+        through: given.through,
         to: given.to,
     }))
 }
@@ -175,6 +177,7 @@ fn max_delay_line(at: usize, given: Given) -> Result<Line, SdcFault>
     Ok(Line::Timing(SdcCommand::MaxDelay {
         amount,
         from: given.from,
+        through: given.through,
         to: given.to,
     }))
 }

@@ -1,6 +1,6 @@
 use crate::options::{CommandKind, SdcOption, Seen};
 use bud_base::Text;
-use bud_syntax::{Objects, SdcCommand};
+use bud_syntax::{ObjectGroups, Objects, SdcCommand};
 use text_scan::Round;
 
 /// The unit of times in force.
@@ -42,6 +42,8 @@ pub struct Given {
     /// Sources or ports.
     pub objects: Option<Objects>,
     pub from: Option<Objects>,
+    /// The groups of `-through`, in their order.
+    pub through: ObjectGroups,
     pub to: Option<Objects>,
 }
 

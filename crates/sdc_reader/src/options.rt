@@ -39,6 +39,7 @@ pub enum SdcOption {
     Start,
     End,
     From,
+    Through,
     To,
 }
 
@@ -158,6 +159,8 @@ fn false_path_option(name: &[u8]) -> Option<SdcOption>
         Some(SdcOption::Hold)
     } else if name == b"-from".as_slice() {
         Some(SdcOption::From)
+    } else if name == b"-through".as_slice() {
+        Some(SdcOption::Through)
     } else if name == b"-to".as_slice() {
         Some(SdcOption::To)
     } else if name == b"-comment".as_slice() {
@@ -180,6 +183,8 @@ fn multicycle_option(name: &[u8]) -> Option<SdcOption>
         Some(SdcOption::End)
     } else if name == b"-from".as_slice() {
         Some(SdcOption::From)
+    } else if name == b"-through".as_slice() {
+        Some(SdcOption::Through)
     } else if name == b"-to".as_slice() {
         Some(SdcOption::To)
     } else if name == b"-comment".as_slice() {
@@ -194,6 +199,8 @@ fn max_delay_option(name: &[u8]) -> Option<SdcOption>
 {
     if name == b"-from".as_slice() {
         Some(SdcOption::From)
+    } else if name == b"-through".as_slice() {
+        Some(SdcOption::Through)
     } else if name == b"-to".as_slice() {
         Some(SdcOption::To)
     } else if name == b"-comment".as_slice() {
@@ -267,7 +274,7 @@ impl Seen {
         }
     }
 
-    /// Whether the option was given.
+    /// Whether the option was given, and may not be given again.
     pub fn has(&self, option: SdcOption) -> bool
         ensures { result ≡ has self.now option }
     {
@@ -292,6 +299,8 @@ impl Seen {
             SdcOption::Start => self.start,
             SdcOption::End => self.end,
             SdcOption::From => self.from,
+            // it may be repeated
+            SdcOption::Through => false,
             SdcOption::To => self.to,
         }
     }
@@ -333,6 +342,7 @@ impl Seen {
             SdcOption::Start => seen.start = true,
             SdcOption::End => seen.end = true,
             SdcOption::From => seen.from = true,
+            SdcOption::Through => {}
             SdcOption::To => seen.to = true,
         }
         seen

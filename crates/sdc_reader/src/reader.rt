@@ -1,4 +1,5 @@
-ghost use Rattle.std.specs.Prelude.{◌≡◌, ◌<◌, ◌^◌, ℕ, List, Result, length, map, Ok};
+ghost use Rattle.std.specs.Prelude.{◌≡◌, ◌<◌, ◌^◌, ℕ, List, Result, length, map, Ok, IfOk, All};
+ghost use Rattle.bud_syntax.specs.Ranges.{IsReadCommand};
 ghost use Rattle.bud_syntax.specs.declared.constraints.SdcCommand.{SdcCommand as Single};
 ghost use Rattle.bud_syntax.specs.declared.constraints.SdcFile.{SdcFile as File};
 ghost use Rattle.sdc_reader.specs.declared.faults.SdcFault.{SdcFault as Fault};
@@ -83,6 +84,7 @@ fn read_all(alloc: Global, commands: Vec<Command>) -> Result<SdcFile, SdcFault>
 /// Times are in nanoseconds until `set_units` says otherwise. Delays are rounded up, periods, waveforms and maximum
 /// delays down, to whole ps. Where the text isn't made of words it is refused as Syntax. Else the first refused command
 /// decides, and in it the first of its name, its words from left to right, and what is missing.
+#[tactic(auto, using(crate::proofs::RangeLemmas::ranges_of))]
 pub fn read_sdc(alloc: Global, text: &[u8]) -> Result<SdcFile, SdcFault>
     requires { length text.now < 2 ^ 31 }
     // What each answer says of the text.
@@ -91,6 +93,8 @@ pub fn read_sdc(alloc: Global, text: &[u8]) -> Result<SdcFile, SdcFault>
     ensures exact { (answer : Result File Fault) → HasAnswer text.now answer → UnlessMemory result (result ≡ answer) }
     // A text that isn't made of words is refused as that.
     ensures torn { IsTorn text.now → UnlessMemory result (IsSyntax result) }
+    // The numbers of commands lie in their ranges.
+    ensures ranges { IfOk result (λ file. All IsReadCommand file.commands) }
 {
     read_answer(alloc, text)
 }
@@ -141,6 +145,7 @@ fn read_only(alloc: Global, first: Command, others: &[Command]) -> Result<SdcCom
 ///
 /// Syntax comes where the text isn't made of words or has no command, and at the name of a second command. Commands that
 /// say nothing of timing (`set`, `set_units`, `current_design`) aren't known here. Else it is as with `read_sdc`.
+#[tactic(auto, using(crate::proofs::RangeLemmas::range_of))]
 pub fn read_command(alloc: Global, text: &[u8]) -> Result<SdcCommand, SdcFault>
     requires { length text.now < 2 ^ 31 }
     // What each answer says of the text.
@@ -149,6 +154,8 @@ pub fn read_command(alloc: Global, text: &[u8]) -> Result<SdcCommand, SdcFault>
     ensures exact { (answer : Result Single Fault) → HasCommand text.now answer → UnlessMemory result (result ≡ answer) }
     // A text that isn't made of words, or has no command, is refused as that.
     ensures none { HasNone text.now → UnlessMemory result (IsSyntax result) }
+    // The numbers of the command lie in their ranges.
+    ensures ranges { IfOk result (λ command. IsReadCommand command) }
 {
     read_first(alloc, text)
 }

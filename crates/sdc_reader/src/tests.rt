@@ -423,3 +423,27 @@ fn single_commands(rt: HostRuntime) {
         refuses_command(&rt, alloc, text, cause, word, at);
     }
 }
+
+/// What the groups of `-through` name, in their order.
+#[test]
+fn through_groups(rt: HostRuntime) {
+    let alloc = rt.alloc();
+    let text = b"set_max_delay 1 -through [get_pins g/Z] -through {a b}".as_slice();
+    match read_command(alloc, text) {
+        Ok(SdcCommand::MaxDelay { through, .. }) => {
+            let groups = through.as_slice();
+            assert_eq!(rt; groups.len(), 2);
+            assert_eq!(rt; groups[0].len(), 1);
+            assert_eq!(rt; groups[1].len(), 2);
+        }
+        _ => assert!(rt; false),
+    }
+    refuses(
+        &rt,
+        alloc,
+        b"set_false_path -through {}",
+        Cause::Syntax,
+        b"",
+        24,
+    );
+}

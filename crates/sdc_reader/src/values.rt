@@ -5,7 +5,7 @@ ghost use Rattle.sdc_reader.specs.Brackets.{found_in, all_of};
 ghost use Rattle.sdc_reader.specs.Words.{names_in};
 ghost use Rattle.tcl_words.specs.Lists.{elements};
 ghost use Rattle.sdc_reader.specs.declared.opened.NameKind.TheVariants.{Any as AnyKind};
-ghost use Rattle.sdc_reader.specs.Values.{misplaced_inside, whole, surplus_word, unrefused, as_port, taken, objects, name_in, clock_name, may_name, names_clock, finds_inside, finds_of, named_objects, object_word, any, one_of, gets_clocks, is_get_clocks, named_one, one_found, clock_found, clock, in_ps, time_word, count_word, clock_name_word, times, two_edges, listed_times, waveform, unit_named, unit_word};
+ghost use Rattle.sdc_reader.specs.Values.{misplaced_inside, whole, surplus_word, unrefused, as_port, taken, objects, name_in, clock_name, may_name, names_clock, finds_inside, finds_of, named_objects, object_word, group_word, any, one_of, gets_clocks, is_get_clocks, named_one, one_found, clock_found, clock, in_ps, time_word, count_word, clock_name_word, times, two_edges, listed_times, waveform, unit_named, unit_word};
 
 use crate::faults::SdcFault;
 use crate::given::{TimeUnit, Waveform};
@@ -185,6 +185,18 @@ pub fn object_word(
         Some(Inside::Refused(fault)) => refuse(alloc, fault),
         Some(Inside::Command(_, _, _, finds)) => named_objects(alloc, ports, named, finds),
     }
+}
+
+/// The objects of a through group, at least one.
+#[tactic(auto, unfolding(crate::specs::Values::group_word))]
+pub fn group_word(alloc: Global, opened: &Opened) -> Result<Objects, SdcFault>
+    ensures { Gives (λ objects. objects) result (group_word opened.now) }
+{
+    let objects = object_word(alloc, false, true, opened)?;
+    if objects.is_empty() {
+        return Err(SdcFault::Syntax(opened.word.at));
+    }
+    Ok(objects)
 }
 
 /// Any word; in brackets stands an object command.

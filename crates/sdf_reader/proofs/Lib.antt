@@ -6,3 +6,4 @@ pub mod ValueLemmas
 pub mod FileLaws
 pub mod ListLaws
 pub mod NameLaws
+mod RangeLemmas

@@ -1,4 +1,5 @@
-ghost use Rattle.std.specs.Prelude.{◌≡◌, ◌<◌, ◌≤◌, ◌^◌, ℕ, List, length, IfOk, IfSome, None};
+ghost use Rattle.std.specs.Prelude.{◌≡◌, ◌<◌, ◌≤◌, ◌^◌, ℕ, List, length, IfOk, IfSome, None, All};
+ghost use Rattle.bud_syntax.specs.Ranges.{IsReadKind};
 ghost use Rattle.text_scan.specs.Gives.{Gives};
 ghost use Rattle.line_text.specs.Answers.{GivesText, IsFaultWithin};
 ghost use Rattle.line_text.specs.Spans.{stop};
@@ -110,6 +111,7 @@ fn read_in_ranges(alloc: Global, text: &[u8]) -> Result<SdfFile, SdfFault>
 /// of the first such number. Else Unsupported comes where a part of the standard that is left out begins, with its first
 /// word, and otherwise Syntax, with an offset within the text. It takes one pass over the text, or two where it is
 /// refused, and memory for the rows alone.
+#[tactic(auto, using(crate::proofs::RangeLemmas::ranges_of))]
 pub fn read_sdf(alloc: Global, text: &[u8]) -> Result<SdfFile, SdfFault>
     requires { length text.now < 2 ^ 31 }
     // What each answer says of the text.
@@ -123,6 +125,8 @@ pub fn read_sdf(alloc: Global, text: &[u8]) -> Result<SdfFile, SdfFault>
     // Without such a word it is refused as malformed.
     ensures malformed { IsMalformed text.now → out.first_left_out (tokens_of text.now) ≡ None → UnlessMemory result (IsSyntax result) }
     ensures size { IfOk result (λ value. length value.rows ≤ length text.now) }
+    // The values of entries lie in their range.
+    ensures ranges { IfOk result (λ value. All (λ row. IsReadKind row.kind) value.rows) }
 {
     read_in_ranges(alloc, text)
 }
