@@ -1,6 +1,6 @@
 -- The greatest common divisor, one division after the other.
 use Rattle.std.specs.Prelude.{◌≡◌, ℕ, zero, suc, ◌<◌, ◌==◌, ◌%◌, false}
-use Rattle.std.proofs.Common.{refl, sym, ◌∙◌, arith}
+use Rattle.std.proofs.Common.{refl, arith}
 use Rattle.std.proofs.lemmas.Nat.{mod_below}
 use Rattle.bud_design.specs.Clocks.{divisor_in, common_divisor}
 

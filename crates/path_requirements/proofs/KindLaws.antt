@@ -1,11 +1,10 @@
 -- The exceptions of a class that match are the same whether they are sought in the class or among all.
-use Rattle.std.specs.Prelude.{◌≡◌, ℕ, suc, ◌<◌, slice_index_or, ◌-◌, ◌*ℤ◌, ◌==◌, ◌&&◌, ◌||◌, ℤ, pos, ◌+ℤ◌, ◌≤ℤ◌, int_le, nat_lt, Bool, true, false, List, [], ◌∷◌, map, filter, find, filter_map, length, Option, Some, None, unwrap_or, All, AllPairs, if◌then◌else◌}
+use Rattle.std.specs.Prelude.{◌≡◌, ℕ, suc, ◌<◌, slice_index_or, ◌-◌, ◌*ℤ◌, ◌==◌, ◌&&◌, ◌||◌, ℤ, pos, ◌+ℤ◌, ◌≤ℤ◌, int_le, nat_lt, Bool, true, false, List, [], ◌∷◌, map, filter, filter_map, length, Option, Some, None, unwrap_or, All, if◌then◌else◌}
 use Rattle.std.specs.List.{list_any, cons_option}
 use Rattle.std.specs.Option.{option_or}
 use Rattle.std.proofs.Common.{refl, sym, ◌∙◌, ap, arith}
 use Rattle.std.proofs.lemmas.Int.{ints}
 use Rattle.std.proofs.lemmas.List.{get_or_default}
-use Rattle.bud_syntax.specs.declared.edges.Edge.{Edge}
 use Rattle.bud_design.specs.declared.clocks.Clock.{Clock}
 use Rattle.bud_design.specs.declared.clocks.Capture.{Capture}
 use Rattle.bud_design.specs.declared.clocks.Exception.{Exception}
@@ -15,12 +14,12 @@ use Rattle.bud_design.specs.declared.clocks.Constraints.{Constraints}
 use Rattle.bud_design.specs.declared.layers.Met.{Met}
 use Rattle.bud_design.specs.declared.layers.Class.{Class}
 use Rattle.bud_design.specs.Clocks.{relation, clock_at}
-use Rattle.bud_design.specs.Lists.{least, lesser}
-use Rattle.bud_design.specs.Exceptions.{has_met, meets_to, is_false_kind, most_delay, more_cycles, required_by, class_requirement}
+use Rattle.bud_design.specs.Lists.{least}
+use Rattle.bud_design.specs.Exceptions.{has_met, meets_to, is_false_kind, most_delay, more_cycles, class_requirement}
 use Rattle.bud_design.proofs.ClassLaws.{pairs-head, pairs-tail}
 use Rattle.path_requirements.specs.declared.requirements.Bounds.{Bounds}
 use Rattle.path_requirements.specs.Bounds.{IsModest, no_bounds, bounds_with, bounds_with_all}
-use Rattle.path_requirements.specs.Matching.{kind_where, kind_met, kinds_met}
+use Rattle.path_requirements.specs.Matching.{kind_met, kinds_met}
 use Rattle.path_requirements.proofs.Leasts.{is_at_most, least-at_most, lesser-at_most, same-by_tests}
 use Rattle.path_requirements.proofs.Searching.{Rise}
 

@@ -1,7 +1,7 @@
 -- The least of some numbers, by tests of whether one is at most a limit.
-use Rattle.std.specs.Prelude.{◌≡◌, ℤ, ◌||◌, int_le, Bool, true, false, List, [], ◌∷◌, Option, Some, None, filter_map, if◌then◌else◌}
-use Rattle.std.specs.List.{list_any, cons_option}
-use Rattle.std.proofs.Common.{refl, sym, ◌∙◌, ap, arith, true≢false}
+use Rattle.std.specs.Prelude.{◌≡◌, ℤ, ◌||◌, int_le, Bool, false, List, [], ◌∷◌, Option, Some, None}
+use Rattle.std.specs.List.{list_any}
+use Rattle.std.proofs.Common.{refl, ◌∙◌, ap, arith, true≢false}
 use Rattle.std.proofs.lemmas.Int.{ints}
 use Rattle.bud_design.specs.Lists.{least, lesser}
 

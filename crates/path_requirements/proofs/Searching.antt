@@ -1,5 +1,5 @@
 -- The exception of a number, found by the place before which numbers are less.
-use Rattle.std.specs.Prelude.{◌≡◌, ℕ, zero, suc, ◌<◌, ◌≤◌, ◌==◌, ◌&&◌, ◌+◌, nat_lt, Bool, true, false, List, [], ◌∷◌, length, drop, find, Option, Some, None, slice_index_or, All, AllPairs, if◌then◌else◌}
+use Rattle.std.specs.Prelude.{◌≡◌, ℕ, zero, suc, ◌<◌, ◌≤◌, ◌==◌, ◌&&◌, nat_lt, Bool, true, false, List, [], ◌∷◌, length, drop, find, Some, None, slice_index_or, All, AllPairs, if◌then◌else◌}
 use Rattle.std.proofs.Common.{refl, sym, ◌∙◌, ap, arith}
 use Rattle.std.proofs.lemmas.List.Elements.{All-head, All-tail}
 use Rattle.std.specs.List.Sorted.{IsNonDecreasingBy}

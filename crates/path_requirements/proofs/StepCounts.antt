@@ -1,5 +1,5 @@
 -- The steps are the greatest number of groups that pins pass in turn.
-use Rattle.std.specs.Prelude.{ℕ, zero, suc, ◌≤◌, Bool, true, false, List, [], ◌∷◌, length, if◌then◌else◌}
+use Rattle.std.specs.Prelude.{ℕ, suc, ◌≤◌, Bool, true, false, List, [], ◌∷◌, length, if◌then◌else◌}
 use Rattle.std.proofs.Common.{arith}
 use Rattle.bud_base.specs.declared.ids.PinId.{PinId}
 use Rattle.bud_design.specs.Exceptions.{steps, has_pin, AreSteps}

@@ -1,4 +1,4 @@
-use Rattle.std.proofs.Common.{sym, ◌∙◌, rules, arith}
+use Rattle.std.proofs.Common.{sym, rules, arith}
 use Rattle.std.proofs.lemmas.Grind.{common_steps}
 use Rattle.path_requirements.proofs.Searching.{kind-past, kind-here}
 use Rattle.path_requirements.proofs.matching.kind_met.Goals as goal

@@ -1,6 +1,6 @@
 use Rattle.std.proofs.Common.{arith, ◌∙◌}
 use Rattle.std.proofs.lemmas.Nat.{mod_below}
-use Rattle.path_requirements.proofs.Divisors.{common_divisor-step, common_divisor-end}
+use Rattle.path_requirements.proofs.Divisors.{common_divisor-step}
 use Rattle.path_requirements.proofs.relations.common_divisor.Goals as goal
 
 pub loop-rest-preserved : goal.loop-rest-preserved

@@ -1,4 +1,4 @@
-use Rattle.std.proofs.Common.{rules, ap, ◌∙◌, ◌≡◌, ℤ, pos, ◌-ℤ◌, ◌≤ℤ◌, refl, arith, sym, subst, to_z, of_z, w64}
+use Rattle.std.proofs.Common.{rules, ap, ◌∙◌, ◌≡◌, pos, ◌-ℤ◌, refl, arith, sym, subst, to_z, of_z, w64}
 use Rattle.std.proofs.lemmas.Int.{ints}
 use Rattle.bud_design.specs.Clocks.{relation, IsRelation, edge_time, or_whole}
 use Rattle.std.specs.Int.{int_rem_euclid}

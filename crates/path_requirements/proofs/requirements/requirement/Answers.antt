@@ -1,4 +1,4 @@
-use Rattle.std.proofs.Common.{rules, ◌≡◌, ℤ, pos, ◌+ℤ◌, ◌≤ℤ◌, Some, arith, sym, ◌∙◌, ap, to_z, of_z, w64, SFits, to_z-of_z}
+use Rattle.std.proofs.Common.{rules, Some, arith, sym, ◌∙◌, ap, w64, SFits, to_z-of_z}
 use Rattle.std.proofs.lemmas.Int.{ints}
 use Rattle.path_requirements.proofs.KindLaws.{requirement-never, requirement-most, requirement-apart, unwrap-modest, clock_at-from_index}
 use Rattle.path_requirements.proofs.requirements.requirement.Goals as goal
