@@ -1,7 +1,7 @@
 -- The arcs of a design: no two join the same pins, and in order of their pins they are the list of all.
-use Rattle.std.specs.Prelude.{◌≡◌, ℕ, ℤ, ◌<◌, ◌≤◌, ◌⊎◌, Bool, true, false, List, [], ◌∷◌, ◌++◌, map, length, slice_index_or, All, AllPairs, Contains, Some, if◌then◌else◌}
+use Rattle.std.specs.Prelude.{◌≡◌, ℕ, zero, suc, ◌+◌, drop, ℤ, ◌<◌, ◌≤◌, ◌⊎◌, Bool, true, false, List, [], ◌∷◌, ◌++◌, map, length, slice_index_or, All, AllPairs, Contains, Some, if◌then◌else◌}
 use Rattle.std.specs.List.Sorted.{IsPermutation, IsNonDecreasingBy}
-use Rattle.std.proofs.Common.{refl, sym, ◌∙◌, ap, subst, arith, inl, inr, true≢false}
+use Rattle.std.proofs.Common.{refl, sym, ◌∙◌, ap, subst, arith, inl, inr, true≢false, append_assoc}
 use Rattle.std.proofs.lemmas.List.Elements.{All-append, All-head, All-tail, All-nil, All-cons, All-map, All-contains, All-contains_itself}
 use Rattle.std.proofs.lemmas.List.Kept.{AllPairs-cons}
 use Rattle.std.proofs.lemmas.List.Sorted.{IsPermutation-map, Contains-permutation, All-permutation}
@@ -19,6 +19,7 @@ use Rattle.bud_design.specs.TimingRules.{IsDelay, IsSoundPair, StartsInLeaf, IsS
 use Rattle.bud_design.proofs.ClassLaws.{pairs-head, pairs-tail}
 use Rattle.timing_graph.specs.declared.graphs.Arc.{Arc}
 use Rattle.timing_graph.specs.Graphs.{wire_arcs, pair_arcs, all_arcs, AreArcs}
+use Rattle.timing_graph.specs.Gathering.{arc_of_wire}
 use Rattle.timing_graph.specs.GraphViews.{arc_of, key_of}
 use Rattle.timing_graph.proofs.Apartness.{AllPairs-append, Apart, Apart-from_pairs, Apart-pairs, Apart-permutation}
 use Rattle.timing_graph.proofs.Mapped.{AllPairs-map, AllPairs-unmap, All-unmap}
@@ -30,9 +31,6 @@ Differ x y = x.from ≡ y.from → x.to ≡ y.to → ⊥
 
 differ-turn : (x y : arcs.Arc) → Differ x y → Differ y x
 differ-turn x y differ from to = differ (sym from) (sym to)
-
-abbrev arc_of_wire : Wire → ℤ → arcs.Arc
-arc_of_wire w z = record { from = w.from.0; to = w.to.0; least = z; home = w.home }
 
 module _ (t : Timing) where
   -- what holds of the arc of each wire, with each number
@@ -48,8 +46,8 @@ module _ (t : Timing) where
           All-cons P (arc_of_wire w z) (wire_arcs t ws zs) (All-head (λ w. (z : ℤ) → Q z → P (arc_of_wire w z)) w ws holds z (All-head Q z zs numbers)) rest
 
   wires-differ : (ws : List Wire) (zs : List ℤ) → AllPairs (λ w x. w.to.0 < x.to.0) ws → AllPairs Differ (wire_arcs t ws zs)
-  wires-differ [] zs rise i j d less within = absurd (omega (arith, within))
-  wires-differ (w ∷ ws) [] rise i j d less within = absurd (omega (arith, within))
+  wires-differ [] zs rise = λ i j d less within. absurd (omega (arith, within))
+  wires-differ (w ∷ ws) [] rise = λ i j d less within. absurd (omega (arith, within))
   wires-differ (w ∷ ws) (z ∷ zs) rise = by_clock (is_clocked t w.to.0) (wires-differ ws zs (pairs-tail (λ w x. w.to.0 < x.to.0) w ws rise))
     where
       by_clock : (b : Bool) → AllPairs Differ (wire_arcs t ws zs) → AllPairs Differ (if b then wire_arcs t ws zs else arc_of_wire w z ∷ wire_arcs t ws zs)
@@ -83,7 +81,7 @@ module _ (d : Design) (t : Timing) (design : IsDesign d) (timing : IsSoundTiming
   all-differ : AllPairs Differ (all_arcs d t)
   all-differ =
       AllPairs-append Differ (wire_arcs t d.wires t.wires) (pair_arcs d t) (wires-differ t d.wires t.wires wires-rise)
-      (AllPairs-map arc_of_pair Differ t.pairs (λ i j e less within from to. pair-apart _ _ (timing.pair_order i j e less within) from to))
+      (AllPairs-map arc_of_pair Differ t.pairs (λ i j (e : Pair) less within from to. pair-apart (slice_index_or t.pairs i e) (slice_index_or t.pairs j e) (timing.pair_order i j e less within) from to))
       (wires-all t (λ x. All (Differ x) (pair_arcs d t)) (λ z. Unit {0}) d.wires t.wires
       (λ k e below z any.
       All-map (Differ (arc_of_wire (slice_index_or d.wires k e) z)) arc_of_pair t.pairs
@@ -118,3 +116,32 @@ module _ (d : Design) (t : Timing) (design : IsDesign d) (timing : IsSoundTiming
 
   pub AreArcs-sound : (xs : List arcs.Arc) → AreArcs d t xs → All (IsSoundArc d) xs
   AreArcs-sound xs are k e below = All-contains (IsSoundArc d) (all_arcs d t) (slice_index_or xs k e) all-sound (are.sound k e below)
+
+module _ (t : Timing) where
+  -- the arcs of the wires from one on, and of the next on
+  pub wire_arcs-next : (ws : List Wire) (zs : List ℤ) (i : ℕ) (w e : Wire) (z y : ℤ) (b : Bool) → length zs ≡ length ws → i < length ws → w ≡ slice_index_or ws i e → z ≡ slice_index_or zs i y → b ≡ is_clocked t w.to.0
+      → wire_arcs t (drop i ws) (drop i zs) ≡ (if b then [] else arc_of_wire w z ∷ []) ++ wire_arcs t (drop (suc i) ws) (drop (suc i) zs)
+  wire_arcs-next [] zs i w e z y b sizes below isw isz marked = absurd (omega (arith, below))
+  wire_arcs-next (x ∷ ws) [] i w e z y b sizes below isw isz marked = absurd (omega (arith, sizes))
+  wire_arcs-next (x ∷ ws) (v ∷ zs) zero w e z y b sizes below isw isz marked = by_clock (is_clocked t x.to.0) refl
+    where
+      by_clock : (c : Bool) → is_clocked t x.to.0 ≡ c
+          → (if is_clocked t x.to.0 then wire_arcs t ws zs else arc_of_wire x v ∷ wire_arcs t ws zs) ≡ (if b then [] else arc_of_wire w z ∷ []) ++ wire_arcs t ws zs
+      by_clock true here =
+          let clocked : b ≡ true = marked ∙ (ap (λ (u : Wire). is_clocked t u.to.0) isw ∙ here) in
+          rw (here, clocked) refl
+      by_clock false here =
+          let free : b ≡ false = marked ∙ (ap (λ (u : Wire). is_clocked t u.to.0) isw ∙ here) in
+          rw (here, free) (ap (λ a. a ∷ wire_arcs t ws zs) (ap (λ (u : Wire). arc_of_wire u v) (sym isw) ∙ ap (arc_of_wire w) (sym isz)))
+  wire_arcs-next (x ∷ ws) (v ∷ zs) (suc i) w e z y b sizes below isw isz marked = wire_arcs-next ws zs i w e z y b (omega (arith, sizes)) (omega (arith, below)) isw isz marked
+
+  -- one wire more
+  pub wire_arcs-step : (all done put : List arcs.Arc) (ws : List Wire) (zs : List ℤ) (i : ℕ) (w e : Wire) (z y : ℤ) (b : Bool) → length zs ≡ length ws → i < length ws → w ≡ slice_index_or ws i e → z ≡ slice_index_or zs i y → b ≡ is_clocked t w.to.0
+      → all ≡ done ++ wire_arcs t (drop i ws) (drop i zs) → put ≡ done ++ (if b then [] else arc_of_wire w z ∷ []) → all ≡ put ++ wire_arcs t (drop (i + 1) ws) (drop (i + 1) zs)
+  wire_arcs-step all done put ws zs i w e z y b sizes below isw isz marked before added =
+      let one : suc i ≡ i + 1 = omega arith in
+      before
+      ∙ (ap (λ rest. done ++ rest) (wire_arcs-next ws zs i w e z y b sizes below isw isz marked)
+      ∙ (sym (append_assoc done (if b then [] else arc_of_wire w z ∷ []) (wire_arcs t (drop (suc i) ws) (drop (suc i) zs)))
+      ∙ (ap (λ front. front ++ wire_arcs t (drop (suc i) ws) (drop (suc i) zs)) (sym added)
+      ∙ ap (λ k. put ++ wire_arcs t (drop k ws) (drop k zs)) one)))

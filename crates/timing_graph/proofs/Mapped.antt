@@ -8,7 +8,7 @@ use Rattle.bud_design.proofs.ClassLaws.{pairs-head, pairs-tail}
 
 module _ {X Y : Type 0} (f : X → Y) where
   pub AllPairs-map : (R : Y → Y → Type 0) (xs : List X) → AllPairs (λ x y. R (f x) (f y)) xs → AllPairs R (map f xs)
-  AllPairs-map R [] pairs i j d less within = absurd (omega (arith, within))
+  AllPairs-map R [] pairs = λ i j d less within. absurd (omega (arith, within))
   AllPairs-map R (x ∷ xs) pairs =
       AllPairs-cons R (f x) (map f xs) (All-map (R (f x)) f xs (pairs-head (λ a b. R (f a) (f b)) x xs pairs)) (AllPairs-map R xs (pairs-tail (λ a b. R (f a) (f b)) x xs pairs))
 

@@ -4,7 +4,7 @@ use Rattle.std.proofs.Common.{refl, sym, ◌∙◌, ap, subst, arith}
 use Rattle.std.proofs.lemmas.List.{length-map, get_or-map}
 use Rattle.std.proofs.lemmas.List.Elements.{All-map}
 use Rattle.bud_base.specs.Paths.{item_at, Joins}
-use Rattle.bud_base.specs.Orders.{node_at, IsOrder, IsCycle}
+use Rattle.bud_base.specs.Orders.{node_at, IsWithinNodes, IsOrder, IsCycle}
 use Rattle.bud_base.specs.declared.ids.ArcId.{ArcId}
 use Rattle.bud_base.specs.declared.ids.ItemId.{ItemId}
 use Rattle.bud_base.specs.declared.ids.NodeId.{NodeId}
@@ -30,6 +30,10 @@ pin-there : (order : List NodeId) (k : ℕ) → (slice_index_or (map pin_of orde
 pin-there [] k = refl
 pin-there (n ∷ ns) zero = refl
 pin-there (n ∷ ns) (suc k) = pin-there ns k
+
+pub items-within : (pins : ℕ) (xs : List Arc) → All (λ a. (a.from.0 < pins) × (a.to.0 < pins)) xs → All (IsWithinNodes pins) (map item_of xs)
+items-within pins xs within =
+    All-map (IsWithinNodes pins) item_of xs (λ k d below. (let ends = within k d below in record { from = ends.0; to = ends.1 }))
 
 pub IsTopological-from_order : (pins : ℕ) (xs : List Arc) (order : List NodeId) → IsOrder pins (map item_of xs) order → IsTopological pins (map arc_of xs) (map pin_of order)
 IsTopological-from_order pins xs order is = record {

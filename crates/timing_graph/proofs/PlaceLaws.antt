@@ -2,8 +2,12 @@
 use Rattle.std.specs.Prelude.{◌≡◌, ℕ, zero, suc, ◌<◌, ◌≤◌, ◌+◌, ◌&&◌, ◌==◌, Bool, true, false, List, [], ◌∷◌, map, drop, length, slice_index_or, All, Option, Some, None, if◌then◌else◌}
 use Rattle.std.specs.List.{position_from}
 use Rattle.std.proofs.Common.{refl, sym, ◌∙◌, ap, arith, true≢false}
+use Rattle.std.specs.List.Sorted.{IsPartitionedBy}
+use Rattle.std.proofs.Common.{inl, inr}
+use Rattle.std.proofs.lemmas.Bool.{cases_eq}
 use Rattle.bud_design.specs.Arcs.{arc_between}
 use Rattle.bud_design.specs.Orders.{pins_before}
+use Rattle.timing_graph.proofs.PinOrders.{before-trans}
 use Rattle.timing_graph.specs.declared.graphs.Arc.{Arc}
 use Rattle.timing_graph.specs.GraphViews.{arc_of, AreRising, IsPlaceFor}
 
@@ -67,6 +71,13 @@ found xs from to i rise place =
     ∙ (position-at (joins from to) 0 i xs place.within (λ k d less. not-same _ _ from to (place.below k d less))
     (λ k d less inside. not-after _ _ _ _ from to (rise i k d less inside) (place.above i d (omega arith) (omega (arith, less, inside))))
     ∙ ap (λ m. first_at (joins from to) m (drop i xs)) (omega arith))
+
+-- what comes before the pins stands in front
+pub partitioned : (xs : List Arc) (from to : ℕ) → AreRising xs → IsPartitionedBy (λ x. pins_before x.from.0 x.to.0 from to) xs
+partitioned xs from to rise i j d most inside before = elim (cases_eq i j) [
+  | inl same ↦ ap (λ k. pins_before (slice_index_or xs k d).from.0 (slice_index_or xs k d).to.0 from to) same ∙ before
+  | inr differs ↦ before-trans _ _ _ _ from to (rise i j d (omega (arith, most, differs)) inside) before
+]
 
 pub found-past : (xs : List Arc) (from to i : ℕ) → AreRising xs → IsPlaceFor xs from to i → i ≡ length xs → arc_between (map arc_of xs) from to ≡ None
 found-past xs from to i rise place past = found xs from to i rise place ∙ first_past xs i past

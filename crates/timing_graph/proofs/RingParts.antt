@@ -1,12 +1,14 @@
 -- The part of a ring between two visits of a node.
-use Rattle.std.specs.Prelude.{◌≡◌, ℕ, zero, suc, ◌<◌, ◌≤◌, ◌+◌, ◌-◌, List, [], ◌∷◌, drop, take, length, slice_index_or, slice_range, All, Option, Some, None}
-use Rattle.std.specs.List.{replicate, between}
+use Rattle.std.specs.Prelude.{◌≡◌, ℕ, replicate, zero, suc, ◌<◌, ◌≤◌, ◌+◌, ◌-◌, List, [], ◌∷◌, ◌++◌, drop, take, length, slice_index_or, slice_range, All, Option, Some, None}
+use Rattle.std.specs.List.{between}
 use Rattle.std.specs.List.Sorted.{IsPermutation}
-use Rattle.std.proofs.Common.{set, refl, sym, ◌∙◌, ap, subst, arith, inl, inr, get_or-set_same, get_or-set_other, take-all}
+use Rattle.std.proofs.Common.{set, refl, sym, ◌∙◌, ap, subst, arith, inl, inr, get_or-set_same, get_or-set_other}
 use Rattle.std.proofs.lemmas.Bool.{cases_eq}
-use Rattle.std.proofs.lemmas.List.{get_or-drop, get_or_default, length-drop}
+use Rattle.std.proofs.lemmas.List.{get_or-drop, get_or_default, length-drop, take_all}
 use Rattle.std.proofs.lemmas.List.Elements.{All-nil, All-cons}
 use Rattle.std.proofs.lemmas.List.Edits.{length-between, get_or-between}
+use Rattle.std.proofs.lemmas.List.{take-append-drop}
+use Rattle.std.proofs.lemmas.List.Sorted.{IsPermutation-append_comm}
 use Rattle.std.proofs.lemmas.Option.{none-some}
 use Rattle.bud_base.specs.Paths.{item_at, Joins}
 use Rattle.bud_base.specs.Orders.{IsCycle}
@@ -45,16 +47,16 @@ Joins-drop items a b [] k joined inside = absurd (omega (arith, inside))
 Joins-drop items a b (i ∷ is) zero joined inside = joined.2
 Joins-drop items a b (i ∷ is) (suc k) joined inside = Joins-drop items (item_at items i.0).to.0 b is k joined.2 (omega (arith, inside))
 
-none-there : (nodes v : ℕ) → slice_index_or (replicate nodes None) v None ≡ None {A = ℕ}
-none-there zero v = refl
-none-there (suc n) zero = refl
-none-there (suc n) (suc v) = none-there n v
+none-there : {A : Type 0} (n v : ℕ) (x : A) → slice_index_or (replicate n x) v x ≡ x
+none-there zero v x = refl
+none-there (suc n) zero x = refl
+none-there (suc n) (suc v) x = none-there n v x
 
 pub AreSeen-none : (items : List Item) (ring : List ItemId) (nodes : ℕ) → AreSeen items ring 0 (replicate nodes None)
 AreSeen-none items ring nodes = record {
   each = λ k below. absurd (omega (arith, below));
-  below = λ v k is. absurd (none-some k (sym (none-there nodes v) ∙ is));
-  only = λ v k is. absurd (none-some k (sym (none-there nodes v) ∙ is));
+  below = λ v k is. absurd (none-some k (sym (none-there {A = Option ℕ} nodes v None) ∙ is));
+  only = λ v k is. absurd (none-some k (sym (none-there {A = Option ℕ} nodes v None) ∙ is));
 }
 
 some-same : (j k : ℕ) → Some j ≡ Some k → j ≡ k
@@ -84,10 +86,10 @@ AreSeen-more items ring k seen node inside is new now =
       ];
     }
 
-to-between : (items : List Item) (ring : List ItemId) (i j m : ℕ) (d : ItemId) → j ≤ length ring → m < length (between i j ring) → i + m < length ring
+to-between : (items : List Item) (ring : List ItemId) (i j m : ℕ) (d : ItemId) → j ≤ length ring → m < length (between i j ring) → i + m < j → i + m < length ring
     → (item_at items (slice_index_or (between i j ring) m d).0).to.0 ≡ node_behind items ring (i + m)
-to-between items ring i j m d most inside within =
-    ap (λ (x : ItemId). (item_at items x.0).to.0) (get_or-between ring i j m d inside ∙ get_or_default ring (i + m) d (record { 0 = 0 }) within)
+to-between items ring i j m d most inside before within =
+    ap (λ (x : ItemId). (item_at items x.0).to.0) (get_or-between ring i j m d before ∙ get_or_default ring (i + m) d (record { 0 = 0 }) within)
 
 -- between two visits of a node no node is entered twice
 pub IsOwnRing-found : (items : List Item) (ring : List ItemId) (k before node : ℕ) (seen : List (Option ℕ)) → IsRing items ring → k < length ring → node ≡ node_behind items ring k
@@ -114,8 +116,8 @@ IsOwnRing-found items ring k before node seen joined inside is found now =
             (subst (Joins items (node_behind items ring before) (take (suc (k - before - 1)) (drop (suc before) ring))) (there ∙ sym is) part))),
       );
       once = λ i j d lower upper same.
-          let front = to-between items ring (before + 1) (k + 1) i d (omega (arith, inside)) (omega (arith, lower, upper)) (omega (arith, lower, upper, size, inside)) in
-          let back = to-between items ring (before + 1) (k + 1) j d (omega (arith, inside)) upper (omega (arith, upper, size, inside)) in
+          let front = to-between items ring (before + 1) (k + 1) i d (omega (arith, inside)) (omega (arith, lower, upper)) (omega (arith, lower, upper, size)) (omega (arith, lower, upper, size, inside)) in
+          let back = to-between items ring (before + 1) (k + 1) j d (omega (arith, inside)) upper (omega (arith, upper, size)) (omega (arith, upper, size, inside)) in
           let equal : node_behind items ring (before + 1 + i) ≡ node_behind items ring (before + 1 + j) = sym front ∙ (same ∙ back) in
           let seen_front = now.each (before + 1 + i) (omega (arith, lower, upper, size)) in
           elim (cases_eq (before + 1 + j) k) [
@@ -131,7 +133,9 @@ IsOwnRing-found items ring k before node seen joined inside is found now =
     }
 
 whole : {X : Type 0} (xs : List X) → between 0 (length xs) xs ≡ xs
-whole xs = take-all xs (length xs) (omega arith)
+whole xs =
+    let all : length xs - 0 ≡ length xs = omega arith in
+    ap (λ n. take n xs) all ∙ take_all (length xs) xs (omega arith)
 
 -- where no node comes again, the whole ring leads to no node twice
 pub IsOwnRing-whole : (items : List Item) (ring : List ItemId) (seen : List (Option ℕ)) → IsRing items ring → 0 < length ring → AreSeen items ring (length ring) seen
@@ -149,12 +153,20 @@ IsOwnRing-whole items ring seen joined some now = record {
 }
 
 -- an own ring, turned so that its least number comes first
-pub IsOwnCycle-from_turned : (items : List Item) (ring : List ItemId) (part : Part) (old new : List ItemId) → IsOwnRing items ring part → old ≡ slice_range ring part.from part.to → IsTurned old new → IsPermutation old new
+pub IsOwnCycle-from_turned : (items : List Item) (ring : List ItemId) (part : Part) (old new : List ItemId) → IsOwnRing items ring part → old ≡ slice_range ring part.from part.to → IsTurned old new
     → IsOwnCycle items new
-IsOwnCycle-from_turned items ring part old new own is turned moves = record {
-  cycle = IsCycle-from_turned items old new (subst (IsRing items) (sym is) own.joined) turned;
-  once =
-      Apart-pairs (λ (a b : ItemId). (item_at items a.0).to.0 ≡ (item_at items b.0).to.0 → ⊥) new
-      (Apart-permutation (λ (a b : ItemId). (item_at items a.0).to.0 ≡ (item_at items b.0).to.0 → ⊥) old new moves
-      (Apart-from_pairs (λ (a b : ItemId). (item_at items a.0).to.0 ≡ (item_at items b.0).to.0 → ⊥) (λ x y differ same. differ (sym same)) old (subst (EnterOnce items) (sym is) own.once)));
-}
+IsOwnCycle-from_turned items ring part old new own is turned =
+    let moves : IsPermutation old new
+    = subst (λ xs. IsPermutation xs new) (take-append-drop turned.place old)
+    (subst (IsPermutation (take turned.place old ++ drop turned.place old)) (sym turned.turned) (IsPermutation-append_comm (take turned.place old) (drop turned.place old))) in
+    record {
+      cycle = IsCycle-from_turned items old new (subst (IsRing items) (sym is) own.joined) turned;
+      once =
+          Apart-pairs (λ (a b : ItemId). (item_at items a.0).to.0 ≡ (item_at items b.0).to.0 → ⊥) new
+          (Apart-permutation (λ (a b : ItemId). (item_at items a.0).to.0 ≡ (item_at items b.0).to.0 → ⊥) old new moves
+          (Apart-from_pairs (λ (a b : ItemId). (item_at items a.0).to.0 ≡ (item_at items b.0).to.0 → ⊥) (λ x y differ same. differ (sym same)) old (subst (EnterOnce items) (sym is) own.once)));
+    }
+
+-- what is read at a place, at the default that definitions have
+pub there-from_index : (seen : List (Option ℕ)) (v : ℕ) (o : Option ℕ) → v < length seen → o ≡ slice_index_or seen v o → slice_index_or seen v None ≡ o
+there-from_index seen v o below is = get_or_default seen v None o below ∙ sym is

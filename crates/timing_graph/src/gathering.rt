@@ -1,7 +1,7 @@
-ghost use Rattle.std.specs.Prelude.{◌≡◌, ◌<◌, ◌++◌, map, length, All, IfOk, OnOk};
+ghost use Rattle.std.specs.Prelude.{◌≡◌, ◌<◌, ◌++◌, [], ◌∷◌, if◌then◌else◌, map, length, All, IfOk, OnOk};
 ghost use Rattle.std.specs.List.Sorted.{IsPermutation, IsNonDecreasingBy};
 ghost use Rattle.bud_design.specs.Designs.{pin_at};
-ghost use Rattle.timing_graph.specs.Gathering.{MarkClockPins, arcs_of_pairs};
+ghost use Rattle.timing_graph.specs.Gathering.{MarkClockPins, arcs_of_pairs, arc_of_wire};
 ghost use Rattle.timing_graph.specs.Graphs.{wire_arcs};
 ghost use Rattle.timing_graph.specs.GraphViews.{arc_of, key_of};
 
@@ -22,6 +22,21 @@ fn clock_marks(alloc: Global, pins: usize, timing: &Timing) -> Result<Vec<bool>,
     Ok(marks)
 }
 
+/// Adds the arc of a wire that doesn't end at a clock pin.
+fn put_wire(arcs: &mut Vec<Arc>, wire: Wire, delay: i64, is_clocked: bool) -> Result<(), AllocError>
+    ensures { OnOk result (map arc_of arcs.new.items ≡ map arc_of arcs.old.items ++ (if is_clocked then [] else arc_of_wire wire delay ∷ [])) }
+{
+    if !is_clocked {
+        arcs.push(Arc {
+            from: wire.from,
+            to: wire.to,
+            least: delay,
+            home: wire.home,
+        })?;
+    }
+    Ok(())
+}
+
 /// Adds the arcs of the wires that don't end at a clock pin.
 fn put_wires(
     arcs: &mut Vec<Arc>,
@@ -36,14 +51,7 @@ fn put_wires(
 {
     let delays = timing.wires.as_slice();
     for (place, wire) in wires.iter().enumerate() {
-        if !marks[wire.to.0 as usize] {
-            arcs.push(Arc {
-                from: wire.from,
-                to: wire.to,
-                least: delays[place],
-                home: wire.home,
-            })?;
-        }
+        put_wire(arcs, *wire, delays[place], marks[wire.to.0 as usize])?;
     }
     Ok(())
 }
@@ -92,10 +100,17 @@ pub fn gather(
     Ok(arcs)
 }
 
+/// A number that rises with the pair of pins.
+fn key(arc: Arc) -> u64
+    ensures { result ≡ key_of arc }
+{
+    u64::from(arc.from.0) * 4294967296 + u64::from(arc.to.0)
+}
+
 /// Puts arcs in order of their pairs of pins.
 pub fn sort(arcs: &mut [Arc])
     ensures permutation { IsPermutation arcs.old arcs.new }
     ensures sorted { IsNonDecreasingBy key_of arcs.new }
 {
-    arcs.sort_unstable_by_key(|arc| u64::from(arc.from.0) * 4294967296 + u64::from(arc.to.0));
+    arcs.sort_unstable_by_key(|arc| key(*arc));
 }

@@ -27,13 +27,15 @@ fn own_part(
     let mut seen: Vec<Option<usize>> = vec![in alloc; None; nodes]?;
     for (place, item) in ring.iter().enumerate() {
         let node = items[item.0 as usize].to.0 as usize;
-        if let Some(before) = seen[node] {
-            return Ok(Part {
-                from: before + 1,
-                to: place + 1,
-            });
+        match seen[node] {
+            Some(before) => {
+                return Ok(Part {
+                    from: before + 1,
+                    to: place + 1,
+                });
+            }
+            None => seen[node] = Some(place),
         }
-        seen[node] = Some(place);
     }
     Ok(Part {
         from: 0,
