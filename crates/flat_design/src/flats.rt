@@ -1,4 +1,4 @@
-ghost use Rattle.std.specs.Prelude.{◌≡◌, ◌-◌, ◌<◌, ◌++◌, length, find, IfOk, OnOk, OnErr};
+ghost use Rattle.std.specs.Prelude.{◌≡◌, ◌-◌, ◌<◌, ◌++◌, length, find, IfOk, IfSome, OnOk, OnErr};
 ghost use Rattle.std.specs.List.{range_with_len};
 ghost use Rattle.std.specs.Option.{option_map};
 ghost use Rattle.std.specs.Str.{bytes_eq};
@@ -92,7 +92,8 @@ impl Flat {
 
     /// The first pin from this number on that has this name.
     fn pin_from(&self, from: usize, name: &[u8], form: Form) -> Option<u32>
-        ensures { result ≡ find (λ v. bytes_eq (formed form (pin_name self.now 0 v)) name.now) (range_with_len from (length self.now.pins - from)) }
+        ensures first { result ≡ find (λ v. bytes_eq (formed form (pin_name self.now 0 v)) name.now) (range_with_len from (length self.now.pins - from)) }
+        ensures within { IfSome result (λ v. v < length self.now.pins) }
     {
         for number in from..self.pins.len() {
             if self.has_name(number, name, form) {
@@ -104,7 +105,8 @@ impl Flat {
 
     /// The number of the pin that a name means.
     fn meant_pin(&self, name: &[u8]) -> Option<u32>
-        ensures { result ≡ meaning (named_pins self.now 0) name.now }
+        ensures meaning { result ≡ meaning (named_pins self.now 0) name.now }
+        ensures within { IfSome result (λ v. v < length self.now.pins) }
     {
         let _ = &self.pins;
         if let Some(number) = self.pin_from(0, name, Form::Printed) {
@@ -121,7 +123,8 @@ impl Flat {
 
     /// The pin that a name means: the one with this printed name, else the only one with this plain name.
     pub fn find_pin(&self, name: &[u8]) -> Option<PinId>
-        ensures { option_map (λ pin. pin.0) result ≡ meaning (named_pins self.now 0) name.now }
+        ensures meaning { option_map (λ pin. pin.0) result ≡ meaning (named_pins self.now 0) name.now }
+        ensures within { IfSome result (λ pin. pin.0 < length self.now.pins) }
     {
         match self.meant_pin(name) {
             Some(number) => Some(PinId(number)),
@@ -132,14 +135,16 @@ impl Flat {
     /// The first instance from this number on that has this name.
     fn place_from(&self, from: usize, name: &[u8], form: Form) -> Option<u32>
         requires { 0 < from }
-        ensures { result ≡ find (λ p. bytes_eq (formed form (place_name self.now.places 0 p)) name.now) (range_with_len from (length self.now.places - from)) }
+        ensures first { result ≡ find (λ p. bytes_eq (formed form (place_name self.now.places 0 p)) name.now) (range_with_len from (length self.now.places - from)) }
+        ensures within { IfSome result (λ p. p < length self.now.places) }
     {
         instance_from(self.places.as_slice(), from, name, form)
     }
 
     /// The instance that a name means: the one with this printed name, else the only one with this plain name.
     pub fn find_place(&self, name: &[u8]) -> Option<u32>
-        ensures { result ≡ meaning (named_cells self.now 0) name.now }
+        ensures meaning { result ≡ meaning (named_cells self.now 0) name.now }
+        ensures within { IfSome result (λ p. p < length self.now.places) }
     {
         let _ = &self.places;
         if let Some(number) = self.place_from(1, name, Form::Printed) {
@@ -177,7 +182,8 @@ impl Flat {
     /// The first pin of the wire that ends at this one.
     pub fn driver(&self, pin: PinId) -> Option<PinId>
         requires { pin.0 < length self.now.pins }
-        ensures { option_map (λ driver. driver.0) result ≡ driver_of self.now.wires pin.0 }
+        ensures driver { option_map (λ driver. driver.0) result ≡ driver_of self.now.wires pin.0 }
+        ensures within { IfSome result (λ driver. driver.0 < length self.now.pins) }
     {
         for wire in self.wires.as_slice() {
             if wire.to == pin {

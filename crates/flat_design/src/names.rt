@@ -1,4 +1,4 @@
-ghost use Rattle.std.specs.Prelude.{◌≡◌, ◌-◌, ◌<◌, ◌++◌, length, find};
+ghost use Rattle.std.specs.Prelude.{◌≡◌, ◌-◌, ◌<◌, ◌++◌, length, find, IfSome};
 ghost use Rattle.std.specs.List.{range_with_len};
 ghost use Rattle.std.specs.Str.{bytes_eq};
 ghost use Rattle.bud_design.specs.DesignRules.{IsPrinted};
@@ -82,7 +82,8 @@ pub fn instance_from(places: &[Place], from: usize, name: &[u8], form: Form) -> 
     requires places { ArePlaces places.now }
     requires few { length places.now < 2147483648 }
     requires below { 0 < from }
-    ensures { result ≡ find (λ p. bytes_eq (formed form (place_name places.now 0 p)) name.now) (range_with_len from (length places.now - from)) }
+    ensures first { result ≡ find (λ p. bytes_eq (formed form (place_name places.now 0 p)) name.now) (range_with_len from (length places.now - from)) }
+    ensures within { IfSome result (λ p. p < length places.now) }
 {
     for number in from..places.len() {
         if is_instance(places, number as u32, name, form) {

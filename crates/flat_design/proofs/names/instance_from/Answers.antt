@@ -5,8 +5,8 @@ use Rattle.flat_design.specs.Fronts.{formed}
 use Rattle.flat_design.proofs.MeaningLaws.{find-here, find-next}
 use Rattle.flat_design.proofs.names.instance_from.Goals as goal
 
-pub returns-then-is_instance : goal.returns-then-is_instance
-returns-then-is_instance c =
+pub returns-then-is_instance-clause-first : goal.returns-then-is_instance-clause-first
+returns-then-is_instance-clause-first c =
     sym (find-here (λ p. bytes_eq (formed c.args.form (place_name c.args.places.now 0 p)) c.args.name.now) c.loop-number.number (length c.args.places.now) c.loop-number-test.true (sym c.is_instance.ensures ∙ c.if-is_instance.true))
     ∙ c.loop-number.invariant
 

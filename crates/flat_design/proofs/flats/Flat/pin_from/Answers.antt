@@ -5,8 +5,8 @@ use Rattle.flat_design.specs.Fronts.{formed}
 use Rattle.flat_design.proofs.MeaningLaws.{find-here, find-next}
 use Rattle.flat_design.proofs.flats.Flat.pin_from.Goals as goal
 
-pub returns-then-has_name : goal.returns-then-has_name
-returns-then-has_name c =
+pub returns-then-has_name-clause-first : goal.returns-then-has_name-clause-first
+returns-then-has_name-clause-first c =
     let below : c.loop-number.number < length c.args.self.now.pins = omega (arith, c.loop-number-test.true, c.len-number-end.ensures, ap (λ d. length d.pins) c.self.view_is) in
     sym (find-here (λ v. bytes_eq (formed c.args.form (pin_name c.args.self.now 0 v)) c.args.name.now) c.loop-number.number (length c.args.self.now.pins) below (sym c.has_name.ensures ∙ c.if-has_name.true))
     ∙ c.loop-number.invariant
