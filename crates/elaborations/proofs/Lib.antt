@@ -1,0 +1,4 @@
+pub mod Lists
+pub mod Called
+pub mod Walks
+pub mod Growing
