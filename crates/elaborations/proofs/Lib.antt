@@ -2,3 +2,5 @@ pub mod Lists
 pub mod Called
 pub mod Walks
 pub mod Growing
+pub mod Tops
+pub mod Trees

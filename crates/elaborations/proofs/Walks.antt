@@ -40,7 +40,7 @@ children-none places here from n p parents apart out =
     ]))
 
 -- more places in which nothing of this one stands
-filled-with : (modules : List Module) (places : List Place) (from m from' m' p : ℕ) → children places p from m ≡ children places p from' m' → IsFilled modules places from m p → IsFilled modules places from' m' p
+pub filled-with : (modules : List Module) (places : List Place) (from m from' m' p : ℕ) → children places p from m ≡ children places p from' m' → IsFilled modules places from m p → IsFilled modules places from' m' p
 filled-with modules places from m from' m' p same filled = record {
   «module» = filled.«module»;
   is_of = filled.is_of;
@@ -91,7 +91,7 @@ parent-here places here q is = rw is (eq-eqb here here refl)
 children-cons : (places : List Place) (p at n : ℕ) → same_number (place_at places at).parent (Some p) ≡ true → children places p at (suc n) ≡ at ∷ children places p (at + 1) n
 children-cons places p at n is = rw is refl
 
-children-skip : (places : List Place) (p at n : ℕ) → same_number (place_at places at).parent (Some p) ≡ false → children places p at (suc n) ≡ children places p (at + 1) n
+pub children-skip : (places : List Place) (p at n : ℕ) → same_number (place_at places at).parent (Some p) ≡ false → children places p at (suc n) ≡ children places p (at + 1) n
 children-skip places p at n is = rw is refl
 
 -- an instance of a plain module, with what is inside it

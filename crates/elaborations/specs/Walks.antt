@@ -64,3 +64,12 @@ pub record AreInside (modules : List Module) (instances : List Instance) (here f
   pub filled : (p : ℕ) → from ≤ p → p < from + count → IsFilled modules places from count p
   pub parents : (p : ℕ) → from ≤ p → p < from + count → HasItsParent places here from p
   pub pins_are : pins ≡ flat_map (pins_in modules places) (range_with_len from count)
+
+-- the places are the tree of instances below a plain top, each place before those inside it, and the pins are their port bits in order
+pub record IsInstanceTree (modules : List Module) (places : List Place) (pins : List Pin) : Type 0 where
+  pub some : 0 < length places
+  pub no_parent : (place_at places 0).parent ≡ None
+  pub plain_top : (place_at places 0).leaf ≡ false
+  pub below : (p : ℕ) → 1 ≤ p → p < length places → HasItsParent places 0 1 p
+  pub filled : (p : ℕ) → p < length places → IsFilled modules places 0 (length places) p
+  pub pins_are : pins ≡ flat_map (pins_in modules places) (range_with_len 0 (length places))
