@@ -4,3 +4,8 @@ pub mod Walks
 pub mod Growing
 pub mod Tops
 pub mod Trees
+pub mod PortBits
+pub mod Siblings
+pub mod PinNumbers
+pub mod Driving
+pub mod DesignLaws
