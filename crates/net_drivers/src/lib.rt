@@ -1,0 +1,5 @@
+//! Which pin drives each net bit of a module of a netlist.
+#![tactic(auto)]
+
+mod chains;
+mod covers;
