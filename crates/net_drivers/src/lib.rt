@@ -3,3 +3,7 @@
 
 mod chains;
 mod covers;
+mod pins;
+mod slots;
+
+pub use pins::{LocalPin, LocalWire};
