@@ -16,7 +16,9 @@ use Rattle.bud_design.specs.Names.{printed}
 use Rattle.bud_design.proofs.DesignNames.{named_cells-differ, named_pins-differ}
 use Rattle.bud_design.proofs.NameLaws.{IsShort, printed-injective}
 use Rattle.module_nets.specs.Nets.{PortBit, port_bits, same_number, module_called}
-use Rattle.elaborations.specs.Drivers.{LocalPin, LocalWire, local_wires}
+use Rattle.net_drivers.specs.declared.pins.LocalPin.{LocalPin}
+use Rattle.net_drivers.specs.declared.pins.LocalWire.{LocalWire}
+use Rattle.net_drivers.specs.Drivers.{local_wires}
 use Rattle.elaborations.specs.Elaborations.{IsFlatDesign, all_wires, wires_in, wire_at, local_wires_of, pin_number, place_of, first_pin, module_of, instances_in, ends_before}
 use Rattle.elaborations.specs.Walks.{children, StandsFor, IsOf, HasInside, IsFilled, HasItsParent, IsInstanceTree, pins_in}
 use Rattle.elaborations.proofs.Called.{find-passes}

@@ -11,7 +11,9 @@ use Rattle.bud_syntax.specs.declared.modules.Module.{Module}
 use Rattle.bud_syntax.specs.declared.modules.NetDecl.{NetDecl}
 use Rattle.bud_design.specs.Designs.{is_input, is_output}
 use Rattle.module_nets.specs.Nets.{NetBit, PortBit, same_bit, bit_of, net_bits, port_bits, expression_bits, joined_bits, module_called}
-use Rattle.elaborations.specs.Drivers.{LocalPin, Source, pin, constant, assigned, Drive, drive, drive_if, input_drives, output_drives, child_drives, instance_drives, pair_drives, assign_drives, drives, source_of, through, driver, Load, load_if, own_loads, input_loads, child_loads, instance_loads, loads, LocalWire, local_wires, local_pin}
+use Rattle.net_drivers.specs.declared.pins.LocalPin.{LocalPin}
+use Rattle.net_drivers.specs.declared.pins.LocalWire.{LocalWire}
+use Rattle.net_drivers.specs.Drivers.{Source, pin, constant, assigned, Drive, drive, drive_if, input_drives, output_drives, child_drives, instance_drives, pair_drives, assign_drives, drives, source_of, through, driver, Load, load_if, own_loads, input_loads, child_loads, instance_loads, loads, local_wires, local_pin}
 use Rattle.elaborations.proofs.PinNumbers.{no_bit}
 use Rattle.elaborations.proofs.Siblings.{no_instance}
 use Rattle.elaborations.proofs.Tops.{find-all}
@@ -123,6 +125,7 @@ module _ (modules : List Module) (m : Module) where
   constants-right (n ∷ ns) = All-append Right (map (λ b. drive b constant) (net_bits m n.name)) (flat_map (λ n. map (λ b. drive b constant) (net_bits m n.name)) ns) (bits-right (net_bits m n.name)) (constants-right ns)
 
   drives-right : All Right (drives modules m)
+  unfolding drives
   drives-right =
       let constants = flat_map (λ n. map (λ b. drive b constant) (net_bits m n.name)) (filter (λ n. n.constant) m.nets) in
       let assigns = flat_map (assign_drives m) m.assigns in
@@ -178,6 +181,7 @@ module _ (modules : List Module) (m : Module) where
   through-right follow (Some (assigned (Some b))) p right on is = on b is
 
   pub driver-right : (most : ℕ) (b : NetBit) (p : LocalPin) → driver most (drives modules m) b ≡ Some p → IsDriving modules m p
+  unfolding driver
   driver-right zero b p is = through-right (λ next. None) (source_of (drives modules m) b) p (source-right b) (λ next none. absurd (none-some none)) is
     where
       none-some : None ≡ Some p → ⊥
@@ -227,6 +231,7 @@ module _ (modules : List Module) (m : Module) where
       (instances-loaded (suc i) (front ++ x ∷ []) xs (is ∙ snoc front x xs) (one-more front x i at))
 
   loads-loaded : All Loaded (loads modules m)
+  unfolding loads
   loads-loaded =
       All-append Loaded (own_loads 0 (port_bits m)) (instance_loads modules m 0 m.instances) (own-loaded 0 [] (port_bits m) refl refl) (instances-loaded 0 [] m.instances refl refl)
 

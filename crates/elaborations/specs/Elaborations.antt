@@ -10,9 +10,11 @@ use Rattle.bud_syntax.specs.declared.modules.Module.{Module}
 use Rattle.module_nets.specs.declared.faults.ElabFault.{ElabFault}
 use Rattle.module_nets.specs.declared.faults.ElabFault.TheVariants.{ModuleTwice, NoTop, ManyTops, TooDeep, InoutPort, NameTwice, TooLarge, UnknownModule, Recursive, UnknownPort, Select, Width, TwoDrivers, NoMemory}
 use Rattle.bud_design.specs.Designs.{Design, place_at}
-use Rattle.elaborations.specs.Drivers.{LocalPin, LocalWire, local_wires}
+use Rattle.net_drivers.specs.declared.pins.LocalPin.{LocalPin}
+use Rattle.net_drivers.specs.declared.pins.LocalWire.{LocalWire}
+use Rattle.net_drivers.specs.Drivers.{local_wires}
 use Rattle.module_nets.specs.Entering.{Entry, entered_count, body_fault, printed_in}
-use Rattle.elaborations.specs.Drivers.{twice_driven}
+use Rattle.net_drivers.specs.Drivers.{twice_driven}
 use Rattle.std.specs.Option.{option_or, option_map}
 use Rattle.bud_design.specs.Lists.{Lists}
 use Rattle.bud_design.specs.Names.{printed, bit_name}

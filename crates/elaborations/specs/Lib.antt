@@ -1,3 +1,2 @@
-pub mod Drivers
 pub mod Elaborations
 pub mod Walks
