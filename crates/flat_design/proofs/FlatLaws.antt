@@ -20,7 +20,7 @@ use Rattle.flat_design.proofs.FrontLaws.{name-last}
 use Rattle.flat_design.proofs.MeaningLaws.{named, meaning-named, filter-range, only-none, only-one, only-two}
 
 pub are_places : (d : Design) → IsFlat d → ArePlaces d.places
-are_places d is = record { top = is.is_design.top; parents = is.is_design.parents; texts = is.names.places }
+are_places d is = record { top = is.is_design.top; parents = is.is_design.parents; forms = is.names.places }
 
 -- what a name means among the numbers from k to below n
 abbrev pub meant : (ℕ → List ℕ) → ℕ → ℕ → List ℕ → Option ℕ

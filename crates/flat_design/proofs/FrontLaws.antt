@@ -9,7 +9,7 @@ use Rattle.std.proofs.lemmas.Fmt.{decimal_by_steps}
 use Rattle.std.proofs.lemmas.Grind.{reverse_onto}
 use Rattle.std.proofs.lemmas.Bool.Decides.{Decides-eqb}
 use Rattle.bud_design.specs.Designs.{place_at, above, upwards, lineage, way_down, place_name}
-use Rattle.bud_design.specs.DesignRules.{HasParent, HasPlaceName, IsPrinted}
+use Rattle.bud_design.specs.DesignRules.{HasParent, HasPrintedForm, IsPrintedForm}
 use Rattle.bud_design.specs.declared.designs.Place.{Place}
 use Rattle.bud_design.specs.Names.{is_ordinary, printed, plain, plain_from, bit_name}
 use Rattle.std.specs.Str.{bytes_eq}
@@ -36,11 +36,11 @@ plain-printed_onto (b ∷ bs) s = by_ordinary (is_ordinary b) refl (plain-printe
     by_ordinary false e rest = ap (λ cs. b ∷ cs) rest
 
 -- behind an identifier in printed form the plain name goes on
-plain-append : (x s : List ℕ) → IsPrinted x → plain (x ++ s) ≡ plain x ++ plain s
+plain-append : (x s : List ℕ) → IsPrintedForm x → plain (x ++ s) ≡ plain x ++ plain s
 plain-append x s is =
-    ap (λ y. plain (y ++ s)) is.name_is
-    ∙ (plain-printed_onto is.identifier s
-    ∙ ap (λ y. y ++ plain s) (sym (append-nil is.identifier) ∙ (sym (plain-printed_onto is.identifier []) ∙ (ap plain (append-nil (printed is.identifier)) ∙ ap plain (sym is.name_is)))))
+    ap (λ y. plain (y ++ s)) is.1
+    ∙ (plain-printed_onto is.0 s
+    ∙ ap (λ y. y ++ plain s) (sym (append-nil is.0) ∙ (sym (plain-printed_onto is.0 []) ∙ (ap plain (append-nil (printed is.0)) ∙ ap plain (sym is.1)))))
 
 -- digits have no backslash
 digit-differs : (d : ℕ) → d < 10 → (48 + d == 92) ≡ false
@@ -59,7 +59,7 @@ plain-decimal = decimal_by_steps (λ n ds. (s : List ℕ) → plain_from false (
     ∙ (ap (λ t. ds ++ t) (rw (digit-differs (n % 10) (omega arith)) refl)
     ∙ sym (append_assoc ds ((48 + n % 10) ∷ []) (plain_from false s)))))
 
-pub formed-last : (form : Form) (port : List ℕ) (bit : Option ℕ) → IsPrinted port → IsShort bit → formed form (bit_name port bit) ≡ formed form port ++ brackets bit
+pub formed-last : (form : Form) (port : List ℕ) (bit : Option ℕ) → IsPrintedForm port → IsShort bit → formed form (bit_name port bit) ≡ formed form port ++ brackets bit
 formed-last Printed port None is short = sym (append-nil port)
 formed-last Printed port (Some n) is short = refl
 formed-last Plain port None is short = sym (append-nil (plain port))
@@ -79,16 +79,16 @@ join-led (x ∷ y ∷ xs) name = ap (λ cs. x ++ (47 ∷ cs)) (join-led (y ∷ x
 regroup : (x rest name : List ℕ) → x ++ (47 ∷ (rest ++ name)) ≡ ((x ++ 47 ∷ []) ++ rest) ++ name
 regroup x rest name = simp append_assoc
 
-formed-led : (form : Form) (xs : List (List ℕ)) (name : List ℕ) → All IsPrinted xs → formed form (led xs name) ≡ led_by form xs ++ formed form name
+formed-led : (form : Form) (xs : List (List ℕ)) (name : List ℕ) → All IsPrintedForm xs → formed form (led xs name) ≡ led_by form xs ++ formed form name
 formed-led Printed [] name all = refl
 formed-led Printed (x ∷ xs) name all =
-    ap (λ s. x ++ (47 ∷ s)) (formed-led Printed xs name (All-tail IsPrinted x xs all)) ∙ regroup x (led_by Printed xs) name
+    ap (λ s. x ++ (47 ∷ s)) (formed-led Printed xs name (All-tail IsPrintedForm x xs all)) ∙ regroup x (led_by Printed xs) name
 formed-led Plain [] name all = refl
 formed-led Plain (x ∷ xs) name all =
-    plain-append x (47 ∷ led xs name) (All-head IsPrinted x xs all)
-    ∙ (ap (λ s. plain x ++ (47 ∷ s)) (formed-led Plain xs name (All-tail IsPrinted x xs all)) ∙ regroup (plain x) (led_by Plain xs) (plain name))
+    plain-append x (47 ∷ led xs name) (All-head IsPrintedForm x xs all)
+    ∙ (ap (λ s. plain x ++ (47 ∷ s)) (formed-led Plain xs name (All-tail IsPrintedForm x xs all)) ∙ regroup (plain x) (led_by Plain xs) (plain name))
 
-formed-joined : (form : Form) (xs : List (List ℕ)) (name : List ℕ) → All IsPrinted xs → formed form (join_with_byte 47 (xs ++ name ∷ [])) ≡ led_by form xs ++ formed form name
+formed-joined : (form : Form) (xs : List (List ℕ)) (name : List ℕ) → All IsPrintedForm xs → formed form (join_with_byte 47 (xs ++ name ∷ [])) ≡ led_by form xs ++ formed form name
 formed-joined form xs name all = ap (formed form) (join-led xs name) ∙ formed-led form xs name all
 
 led_by-more : (form : Form) (xs : List (List ℕ)) (x : List ℕ) → led_by form (xs ++ x ∷ []) ≡ led_by form xs ++ (formed form x ++ 47 ∷ [])
@@ -117,7 +117,7 @@ parent-top : (o : Option ℕ) (p : ℕ) → HasParent p o → o ≡ None → p �
 parent-top None p has is = has
 parent-top (Some r) p has is = absurd (cc)
 
-some-name : (o : Option ℕ) (q : ℕ) (name : List ℕ) → o ≡ Some q → HasPlaceName o name → IsPrinted name
+some-name : (o : Option ℕ) (q : ℕ) (name : List ℕ) → o ≡ Some q → HasPrintedForm o name → IsPrintedForm name
 some-name None q name is has = absurd (cc)
 some-name (Some r) q name is has = has
 
@@ -154,21 +154,21 @@ module _ (places : List Place) (are : ArePlaces places) where
       ∙ reverse_onto (map name (take_while (λ q. not (q == 0)) (lineage places q))) (name p) [])
 
   -- the names on the way are identifiers in printed form
-  pub way_down-printed : (n p : ℕ) → p < n → p < length places → All IsPrinted (way_down places 0 p)
+  pub way_down-printed : (n p : ℕ) → p < n → p < length places → All IsPrintedForm (way_down places 0 p)
   way_down-printed zero p small below = absurd (omega (arith, small))
   way_down-printed (suc n) p small below = by_parent (place_at places p).parent refl (λ q less lessp. way_down-printed n q less lessp)
     where
-      by_parent : (o : Option ℕ) → (place_at places p).parent ≡ o → ((q : ℕ) → q < n → q < length places → All IsPrinted (way_down places 0 q)) → All IsPrinted (way_down places 0 p)
-      by_parent None is before = subst (λ p. All IsPrinted (way_down places 0 p)) (sym (is_top p below is)) (All-nil IsPrinted)
+      by_parent : (o : Option ℕ) → (place_at places p).parent ≡ o → ((q : ℕ) → q < n → q < length places → All IsPrintedForm (way_down places 0 q)) → All IsPrintedForm (way_down places 0 p)
+      by_parent None is before = subst (λ p. All IsPrintedForm (way_down places 0 p)) (sym (is_top p below is)) (All-nil IsPrintedForm)
       by_parent (Some q) is before =
           let less : q < p = is_below p q below is in
-          let name : IsPrinted (place_at places p).name = some-name (place_at places p).parent q (place_at places p).name is (are.texts p (place_at [] 0) below).0 in
-          subst (All IsPrinted) (sym (way_down-more p q below is))
-          (All-append IsPrinted (way_down places 0 q) ((place_at places p).name ∷ [])
+          let name : IsPrintedForm (place_at places p).name = some-name (place_at places p).parent q (place_at places p).name is (are.forms p (place_at [] 0) below) in
+          subst (All IsPrintedForm) (sym (way_down-more p q below is))
+          (All-append IsPrintedForm (way_down places 0 q) ((place_at places p).name ∷ [])
           (before q (omega (arith, less, small)) (omega (arith, less, below)))
-          (All-cons IsPrinted (place_at places p).name [] name (All-nil IsPrinted)))
+          (All-cons IsPrintedForm (place_at places p).name [] name (All-nil IsPrintedForm)))
 
-  printed_way : (p : ℕ) → p < length places → All IsPrinted (way_down places 0 p)
+  printed_way : (p : ℕ) → p < length places → All IsPrintedForm (way_down places 0 p)
   printed_way p below = way_down-printed (suc p) p (omega arith) below
 
   pub front-top : (form : Form) (p : ℕ) → p < length places → (place_at places p).parent ≡ None → front form places p ≡ []

@@ -1,7 +1,7 @@
 ghost use Rattle.std.specs.Prelude.{◌≡◌, ◌-◌, ◌<◌, ◌++◌, length, find, IfSome};
 ghost use Rattle.std.specs.List.{range_with_len};
 ghost use Rattle.std.specs.Str.{bytes_eq};
-ghost use Rattle.bud_design.specs.DesignRules.{IsPrinted};
+ghost use Rattle.bud_design.specs.DesignRules.{IsPrintedForm};
 ghost use Rattle.bud_design.specs.Designs.{place_at, place_name};
 ghost use Rattle.bud_design.specs.Names.{bit_name};
 ghost use Rattle.flat_design.specs.Flats.{ArePlaces};
@@ -51,7 +51,7 @@ fn is_front(places: &[Place], place: u32, text: &[u8], form: Form) -> bool
 pub fn is_pin(places: &[Place], pin: &Pin, name: &[u8], form: Form) -> bool
     requires places { ArePlaces places.now }
     requires place { pin.now.place < length places.now }
-    requires port { IsPrinted pin.now.port }
+    requires port { IsPrintedForm pin.now.port }
     ensures { result ≡ bytes_eq (front form places.now pin.now.place ++ formed form (bit_name pin.now.port pin.now.bit)) name.now }
 {
     match before_last(name, pin.port.as_slice(), pin.bit, form) {

@@ -1,6 +1,6 @@
 ghost use Rattle.std.specs.Prelude.{◌≡◌, length};
 ghost use Rattle.std.specs.Str.{bytes_eq};
-ghost use Rattle.bud_design.specs.DesignRules.{IsPrinted};
+ghost use Rattle.bud_design.specs.DesignRules.{IsPrintedForm};
 ghost use Rattle.bud_design.specs.Names.{plain, bit_name};
 ghost use Rattle.flat_design.specs.Fronts.{escapes, formed, brackets, IsBefore, IsShort};
 
@@ -111,7 +111,7 @@ pub fn before_last<'a>(
     bit: Option<u32>,
     form: Form,
 ) -> Option<&'a [u8]>
-    requires { IsPrinted port.now }
+    requires { IsPrintedForm port.now }
     ensures { IsBefore text.now (formed form (bit_name port.now bit)) result }
 {
     let Some(text) = before_brackets(text, bit) else {

@@ -1,5 +1,5 @@
 use Rattle.std.proofs.Common.{◌≢◌, ℕ, List, ◌++◌, Option, sym, ◌∙◌, ap, subst}
-use Rattle.bud_design.specs.DesignRules.{IsPrinted}
+use Rattle.bud_design.specs.DesignRules.{IsPrintedForm}
 use Rattle.bud_design.specs.Names.{bit_name}
 use Rattle.flat_design.specs.declared.texts.Form.{Form}
 use Rattle.flat_design.specs.Fronts.{formed, brackets, IsBefore, IsShort}
@@ -7,7 +7,7 @@ use Rattle.flat_design.proofs.FrontLaws.{formed-last}
 use Rattle.flat_design.proofs.TextLaws.{before-more, none-more}
 use Rattle.flat_design.proofs.texts.before_last.Goals as goal
 
-no-bit : (text port : List ℕ) (bit : Option ℕ) (form : Form) → IsPrinted port → IsShort bit → ((before : List ℕ) → text ≢ before ++ brackets bit)
+no-bit : (text port : List ℕ) (bit : Option ℕ) (form : Form) → IsPrintedForm port → IsShort bit → ((before : List ℕ) → text ≢ before ++ brackets bit)
     → (before : List ℕ) → text ≢ before ++ formed form (bit_name port bit)
 no-bit text port bit form is short none before same =
     none-more text (formed form port) (brackets bit) none before (same ∙ ap (λ s. before ++ s) (formed-last form port bit is short))

@@ -1,4 +1,6 @@
-use Rattle.std.proofs.Common.{◌≡◌, ◌++◌, subst, ◌∙◌, ap}
+use Rattle.std.proofs.Common.{◌≡◌, ◌++◌, subst, sym, ◌∙◌, ap}
+use Rattle.bud_design.specs.declared.designs.Pin.{Pin}
+use Rattle.bud_design.specs.DesignRules.{IsPrintedForm}
 use Rattle.std.specs.Prelude.{slice_index_or}
 use Rattle.std.specs.Str.{bytes_eq}
 use Rattle.bud_design.specs.Designs.{Design}
@@ -18,3 +20,11 @@ returns c =
     c.is_pin.ensures
     ∙ (ap (λ ps. bytes_eq (front c.args.form ps p.place ++ formed c.args.form (bit_name p.port p.bit)) c.args.name.now) places
     ∙ ap (λ s. bytes_eq s c.args.name.now) (pin-named c.args.self.now c.args.number p c.args.form flat c.requires read))
+
+pub is_pin-requires-clause-port : goal.is_pin-requires-clause-port
+is_pin-requires-clause-port c =
+    let flat = subst IsFlat c.self.view_is c.self.invariant in
+    let p = c.index-as_slice-number.result in
+    let pins : c.as_slice.result.now ≡ c.args.self.now.pins = c.as_slice.ensures ∙ ap (λ (d : Design). d.pins) c.self.view_is in
+    let read : p ≡ slice_index_or c.args.self.now.pins c.args.number p = c.index-as_slice-number.is ∙ ap (λ vs. slice_index_or vs c.args.number p) pins in
+    subst (λ (v : Pin). IsPrintedForm v.port) (sym read) (flat.names.ports c.args.number p c.requires)
