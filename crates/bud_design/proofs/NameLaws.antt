@@ -125,16 +125,10 @@ behind-injective (x ∷ xs) (y ∷ ys) same =
     let both = join-heads x y (map printed xs) (map printed ys) (ap tail_of same) in
     cons-both x y xs ys both.0 (behind-injective xs ys both.1)
 
-join-some : (y : List ℕ) (ys : List (List ℕ)) → 0 < length y → {P : Type 0} → [] ≡ join_with_byte 47 (printed y ∷ ys) → P
-join-some y ys some same =
-    let none : [] ≡ y = ap (first_of false) (same ∙ join-first (printed y) ys) ∙ first_of-printed y (behind ys) (behind-stops ys) in
-    absurd (omega (arith, some, ap length none))
-
--- names joined by `/` determine the identifiers
-pub joined-injective : (xs ys : List (List ℕ)) → All (λ x. 0 < length x) xs → All (λ y. 0 < length y) ys → join_with_byte 47 (map printed xs) ≡ join_with_byte 47 (map printed ys) → xs ≡ ys
-joined-injective [] [] somex somey same = refl
-joined-injective [] (y ∷ ys) somex somey same = join-some y (map printed ys) (All-head (λ y. 0 < length y) y ys somey) same
-joined-injective (x ∷ xs) [] somex somey same = join-some x (map printed xs) (All-head (λ x. 0 < length x) x xs somex) (sym same)
+-- names joined by `/` determine the identifiers, where there are any
+pub joined-injective : (xs ys : List (List ℕ)) → 0 < length xs → 0 < length ys → join_with_byte 47 (map printed xs) ≡ join_with_byte 47 (map printed ys) → xs ≡ ys
+joined-injective [] ys somex somey same = absurd (omega (arith, somex))
+joined-injective (x ∷ xs) [] somex somey same = absurd (omega (arith, somey))
 joined-injective (x ∷ xs) (y ∷ ys) somex somey same =
     let both = join-heads x y (map printed xs) (map printed ys) same in
     cons-both x y xs ys both.0 (behind-injective xs ys both.1)

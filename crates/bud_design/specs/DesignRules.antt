@@ -45,6 +45,15 @@ pub record IsPrinted (name : List ℕ) : Type 0 where
   pub is_such : is_identifier identifier ≡ true
   pub name_is : name ≡ printed identifier
 
+-- a name is the printed form of some bytes
+abbrev pub IsPrintedForm : List ℕ → Type 0
+IsPrintedForm name = (bytes : List ℕ) × (name ≡ printed bytes)
+
+-- as is the name of every place below the top
+abbrev pub HasPrintedForm : Option ℕ → List ℕ → Type 0
+HasPrintedForm None name = Unit {0}
+HasPrintedForm (Some parent) name = IsPrintedForm name
+
 -- the top has no name of its own
 abbrev pub HasPlaceName : Option ℕ → List ℕ → Type 0
 HasPlaceName None name = name ≡ []

@@ -1,0 +1,2 @@
+pub mod Elaborations
+pub mod Walks
