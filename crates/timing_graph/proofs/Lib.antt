@@ -6,3 +6,4 @@ pub mod OrderLaws
 pub mod PlaceLaws
 pub mod RingParts
 pub mod Leasts
+pub mod CycleLaws
