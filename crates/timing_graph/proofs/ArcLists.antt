@@ -101,8 +101,10 @@ module _ (d : Design) (t : Timing) (design : IsDesign d) (timing : IsSoundTiming
       (λ k e below. (let pair = timing.pairs k e below in record { from = pair.from; to = pair.to; home = design.in_places _ (pin_at [] 0) pair.from; least = pair.value })))
 
   -- the arcs in order of their numbers are those of the design
-  pub AreArcs-from_sorted : (old new : List Arc) → map arc_of old ≡ all_arcs d t → IsPermutation old new → IsNonDecreasingBy key_of new → All (λ a. a.to.0 < 4294967296) new → AreArcs d t (map arc_of new)
-  AreArcs-from_sorted old new is moves sorted small =
+  pub AreArcs-from_sorted : (old new : List Arc) → length d.pins < 2147483648 → map arc_of old ≡ all_arcs d t → IsPermutation old new → IsNonDecreasingBy key_of new → AreArcs d t (map arc_of new)
+  AreArcs-from_sorted old new few is moves sorted =
+      let within = All-permutation (λ a. IsSoundArc d (arc_of a)) old new moves (All-unmap arc_of (IsSoundArc d) old (subst (All (IsSoundArc d)) (sym is) all-sound)) in
+      let small : (k : ℕ) (e : Arc) → k < length new → (slice_index_or new k e).to.0 < 4294967296 = λ k e below. (let here = (within k e below).to in omega (arith, here, few)) in
       let mapped : IsPermutation (all_arcs d t) (map arc_of new) = subst (λ xs. IsPermutation xs (map arc_of new)) is (IsPermutation-map arc_of old new moves) in
       let apart = Apart-permutation Differ (all_arcs d t) (map arc_of new) mapped (Apart-from_pairs Differ differ-turn (all_arcs d t) all-differ) in
       let differ = AllPairs-unmap arc_of Differ new (Apart-pairs Differ (map arc_of new) apart) in
@@ -116,6 +118,9 @@ module _ (d : Design) (t : Timing) (design : IsDesign d) (timing : IsSoundTiming
 
   pub AreArcs-sound : (xs : List arcs.Arc) → AreArcs d t xs → All (IsSoundArc d) xs
   AreArcs-sound xs are k e below = All-contains (IsSoundArc d) (all_arcs d t) (slice_index_or xs k e) all-sound (are.sound k e below)
+
+  pub ends-within : (xs : List Arc) → AreArcs d t (map arc_of xs) → All (λ a. (a.from.0 < length d.pins) × (a.to.0 < length d.pins)) xs
+  ends-within xs are k e below = (let sound = All-unmap arc_of (IsSoundArc d) xs (AreArcs-sound (map arc_of xs) are) k e below in (sound.from, sound.to))
 
 module _ (t : Timing) where
   -- the arcs of the wires from one on, and of the next on

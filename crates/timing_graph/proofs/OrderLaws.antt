@@ -1,5 +1,5 @@
 -- An order and a cycle of items are those of the arcs that they stand for.
-use Rattle.std.specs.Prelude.{◌≡◌, ℕ, zero, suc, ◌<◌, ◌≤◌, List, [], ◌∷◌, map, length, slice_index_or, All, AllPairs}
+use Rattle.std.specs.Prelude.{◌≡◌, ℕ, zero, suc, ◌<◌, ◌≤◌, List, [], ◌∷◌, map, length, slice_index_or, All, AllPairs, Err}
 use Rattle.std.proofs.Common.{refl, sym, ◌∙◌, ap, subst, arith}
 use Rattle.std.proofs.lemmas.List.{length-map, get_or-map}
 use Rattle.std.proofs.lemmas.List.Elements.{All-map}
@@ -9,10 +9,14 @@ use Rattle.bud_base.specs.declared.ids.ArcId.{ArcId}
 use Rattle.bud_base.specs.declared.ids.ItemId.{ItemId}
 use Rattle.bud_base.specs.declared.ids.NodeId.{NodeId}
 use Rattle.bud_design.specs.Arcs.{arc_at, IsPlaceIn, IsTopological, Leads, IsArcCycle}
+use Rattle.bud_design.specs.declared.timings.Timing.{Timing}
+use Rattle.bud_design.specs.Designs.{Design}
+use Rattle.timing_graph.specs.declared.faults.GraphFault.{GraphFault}
+use Rattle.timing_graph.specs.declared.faults.GraphFault.TheVariants.{Cycle, NoMemory}
 use Rattle.timing_graph.specs.declared.graphs.Arc.{Arc}
-use Rattle.timing_graph.specs.Graphs.{pins_of_arc}
+use Rattle.timing_graph.specs.Graphs.{pins_of_arc, AreArcs, IsArcsAnswer}
 use Rattle.timing_graph.specs.GraphViews.{arc_of}
-use Rattle.timing_graph.specs.Orderings.{item_of, pin_of, pair_of}
+use Rattle.timing_graph.specs.Orderings.{item_of, pin_of, pair_of, IsCycleFault}
 use Rattle.timing_graph.specs.Rings.{IsOwnCycle}
 use Rattle.timing_graph.proofs.Mapped.{AllPairs-map}
 
@@ -74,3 +78,14 @@ IsArcCycle-from_own xs (i ∷ is) own = record {
 pub pairs-same : (xs : List Arc) (ring : List ItemId) → map (pair_of (map item_of xs)) ring ≡ map (pins_of_arc (map arc_of xs)) (map arc_id ring)
 pairs-same xs [] = refl
 pairs-same xs (i ∷ is) = rw (from-same xs i.0, to-same xs i.0, pairs-same xs is) refl
+
+-- a cycle of the items is one of the arcs
+pub IsArcsAnswer-fault : (d : Design) (t : Timing) (xs : List Arc) (fault : GraphFault) → AreArcs d t (map arc_of xs) → IsCycleFault (map item_of xs) fault → IsArcsAnswer d t (Err fault)
+IsArcsAnswer-fault d t xs (Cycle pairs) are found = record {
+  arcs = map arc_of xs;
+  are_arcs = are;
+  cycle = map arc_id found.ring;
+  is_cycle = IsArcCycle-from_own xs found.ring found.own;
+  pairs_are = found.pairs_are ∙ pairs-same xs found.ring;
+}
+IsArcsAnswer-fault d t xs NoMemory are found = tt

@@ -108,9 +108,10 @@ fn key(arc: Arc) -> u64
 }
 
 /// Puts arcs in order of their pairs of pins.
-pub fn sort(arcs: &mut [Arc])
-    ensures permutation { IsPermutation arcs.old arcs.new }
-    ensures sorted { IsNonDecreasingBy key_of arcs.new }
+pub fn in_order(mut arcs: Vec<Arc>) -> Result<Vec<Arc>, AllocError>
+    ensures permutation { IfOk result (λ sorted. IsPermutation arcs.items sorted.items) }
+    ensures sorted { IfOk result (λ sorted. IsNonDecreasingBy key_of sorted.items) }
 {
-    arcs.sort_unstable_by_key(|arc| key(*arc));
+    arcs.sort_by_key(|arc| key(*arc))?;
+    Ok(arcs)
 }

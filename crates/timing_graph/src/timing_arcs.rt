@@ -1,11 +1,10 @@
 ghost use Rattle.std.specs.Prelude.{◌≡◌, ◌<◌, ◌≤◌, ◌++◌, map, length, All, IfOk};
-ghost use Rattle.std.specs.List.Sorted.{IsPermutation, IsNonDecreasingBy};
 ghost use Rattle.bud_design.specs.TimingRules.{StartsInLeaf, IsSoundTiming, IsSoundGraph};
 ghost use Rattle.timing_graph.specs.Graphs.{all_arcs, AreArcs, IsArcsAnswer};
 ghost use Rattle.timing_graph.specs.GraphViews.{arc_of};
 
 use crate::faults::GraphFault;
-use crate::gathering::{gather, sort};
+use crate::gathering::{gather, in_order};
 use crate::graphs::{Arc, Graph};
 use crate::ordering::order_of;
 use bud_base::Listed;
@@ -22,9 +21,9 @@ fn arcs_in_order(alloc: Global, flat: &Flat, timing: &Timing) -> Result<Vec<Arc>
     requires leaves { All (StartsInLeaf flat.now) timing.now.pairs }
     ensures { IfOk result (λ arcs. AreArcs flat.now timing.now (map arc_of arcs.items)) }
 {
-    let mut arcs = gather(alloc, flat.pins(), flat.wires(), timing)?;
-    sort(&mut arcs);
-    Ok(arcs)
+    let gathered = gather(alloc, flat.pins(), flat.wires(), timing)?;
+    let sorted = in_order(gathered)?;
+    Ok(sorted)
 }
 
 /// The timing graph of a design under a timing, or a cycle of its arcs.
