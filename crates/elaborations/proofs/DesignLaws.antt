@@ -25,7 +25,8 @@ use Rattle.elaborations.proofs.Called.{find-passes}
 use Rattle.elaborations.proofs.Driving.{IsOwnBit, IsChildBit, IsLocal, IsLocalAt, IsDriving, IsLoading, JoinsRightly, local-wires-right}
 use Rattle.elaborations.proofs.Lists.{AllZip-at, AllZip-length, All-flat_map, comes-from, flat_map-at, by_lt, filter-range-within}
 use Rattle.elaborations.proofs.PinNumbers.{no_bit, pin_of, IsPinOf, pin-of, pins-of-all, pins-together, pins-from-place}
-use Rattle.elaborations.proofs.PortBits.{BitsApart, HasPortsOnce, port_bits-apart}
+use Rattle.elaborations.specs.Ports.{HasPortsOnce}
+use Rattle.elaborations.proofs.PortBits.{BitsApart, port_bits-apart}
 use Rattle.elaborations.proofs.Siblings.{no_instance, tree-parents, tree-siblings}
 use Rattle.elaborations.proofs.Tops.{find-all}
 use Rattle.elaborations.proofs.Trees.{elaborated-tree}

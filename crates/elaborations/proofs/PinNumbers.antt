@@ -17,7 +17,8 @@ use Rattle.module_nets.specs.Nets.{PortBit, port_bits}
 use Rattle.elaborations.specs.Elaborations.{first_pin, or_zero, module_of, pins_at}
 use Rattle.elaborations.specs.Walks.{IsOf, IsInstanceTree, pins_in, pins_of_module}
 use Rattle.elaborations.proofs.Lists.{All-flat_map, AllPairs-append, flat_map-at, comes-from, ComesFrom, range-append, by_lt}
-use Rattle.elaborations.proofs.PortBits.{BitsApart, HasPortsOnce, port_bits-apart}
+use Rattle.elaborations.specs.Ports.{HasPortsOnce}
+use Rattle.elaborations.proofs.PortBits.{BitsApart, port_bits-apart}
 
 abbrev pub no_bit : PortBit
 no_bit = record { port = []; bit = None; dir = Input }
