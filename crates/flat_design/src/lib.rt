@@ -1,0 +1,9 @@
+//! The flat design of a netlist: its places, pins and wires, found by their names.
+#![tactic(auto)]
+
+mod flats;
+mod names;
+mod texts;
+mod writing;
+
+pub use flats::Flat;

@@ -1,0 +1,66 @@
+ghost use Rattle.std.specs.Prelude.{◌≡◌, ◌<◌, ◌++◌, [], ◌∷◌, length, reverse, IfOk, OnOk, OnErr};
+ghost use Rattle.bud_design.specs.Names.{bit_name};
+ghost use Rattle.flat_design.specs.Flats.{ArePlaces};
+ghost use Rattle.flat_design.specs.Fronts.{front, brackets};
+ghost use Rattle.flat_design.specs.declared.texts.Form.TheVariants.{Printed};
+
+use crate::names::{above, own_name};
+use bud_base::Text;
+use bud_design::{Pin, Place};
+use itoa::Buffer;
+use std::alloc::{AllocError, Global};
+use std::mem;
+
+/// Adds a piece to the text; for want of memory the text stays.
+pub fn append(into: &mut Text, piece: &[u8]) -> Result<(), AllocError>
+    ensures ok { OnOk result (into.new ≡ into.old ++ piece.now) }
+    ensures err { OnErr result (into.new ≡ into.old) }
+{
+    let alloc = into.allocator();
+    let mut text = mem::replace(into, Text::new(alloc)).into_vec();
+    let added = text.extend_from_slice(piece);
+    *into = Text::from_vec(text);
+    added
+}
+
+/// Adds the bytes of the piece, the last one first.
+fn put_backwards(text: &mut Vec<u8>, piece: &[u8]) -> Result<(), AllocError>
+    ensures { OnOk result (text.new.items ≡ text.old.items ++ reverse piece.now) }
+{
+    for left in 0..piece.len() {
+        text.push(piece[piece.len() - 1 - left])?;
+    }
+    Ok(())
+}
+
+/// Adds a bit's number in brackets, the last byte first.
+fn put_brackets_backwards(text: &mut Vec<u8>, bit: Option<u32>) -> Result<(), AllocError>
+    ensures { OnOk result (text.new.items ≡ text.old.items ++ reverse (brackets bit)) }
+{
+    let Some(number) = bit else {
+        return Ok(());
+    };
+    let mut buffer = Buffer::new();
+    text.push(b']')?;
+    put_backwards(text, buffer.format(number).as_bytes())?;
+    text.push(b'[')?;
+    Ok(())
+}
+
+/// The pin's printed name, the last byte first.
+pub fn name_backwards(alloc: Global, places: &[Place], pin: &Pin) -> Result<Vec<u8>, AllocError>
+    requires places { ArePlaces places.now }
+    requires place { pin.now.place < length places.now }
+    ensures { IfOk result (λ text. text.items ≡ reverse (front Printed places.now pin.now.place ++ bit_name pin.now.port pin.now.bit)) }
+{
+    let mut text = Vec::new(alloc);
+    put_brackets_backwards(&mut text, pin.bit)?;
+    put_backwards(&mut text, pin.port.as_slice())?;
+    let mut place = pin.place as usize;
+    while let Some(parent) = above(places, place) {
+        text.push(b'/')?;
+        put_backwards(&mut text, own_name(places, place))?;
+        place = parent as usize;
+    }
+    Ok(text)
+}
