@@ -8,3 +8,4 @@ pub mod ReachingLaws
 pub mod ArcOrders
 pub mod NodeLaws
 pub mod RequirementRanges
+pub mod TableLaws

@@ -6,7 +6,7 @@ use Rattle.bud_design.specs.declared.timings.Check.{Check}
 use Rattle.bud_design.specs.declared.timings.Timing.{Timing}
 use Rattle.bud_design.specs.declared.layers.Layered.{Layered}
 use Rattle.bud_design.specs.Arcs.{Graph, Arc, arc_before, IsTopological, is_clocked}
-use Rattle.bud_design.specs.Designs.{Design}
+use Rattle.bud_design.specs.Designs.{Design, place_at, pin_at, is_input}
 use Rattle.bud_design.specs.Layers.{node_before, item_before}
 use Rattle.bud_design.specs.Orders.{pair_before, check_before, edge_pin_before}
 
@@ -19,6 +19,11 @@ pub record IsSoundPair (d : Design) (x : Pair) : Type 0 where
   pub from : x.from.0 < length d.pins
   pub to : x.to.0 < length d.pins
   pub value : IsDelay x.value
+
+-- a pair begins at an input of a leaf, so that no wire begins there
+pub record StartsInLeaf (d : Design) (x : Pair) : Type 0 where
+  pub leaf : (place_at d.places (pin_at d.pins x.from.0).place).leaf ≡ true
+  pub input : is_input (pin_at d.pins x.from.0).dir ≡ true
 
 -- a check stands at a pin that is no clock pin, by a clock pin
 pub record IsSoundCheck (d : Design) (t : Timing) (x : Check) : Type 0 where
