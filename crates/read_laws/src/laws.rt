@@ -4,7 +4,6 @@ ghost use Rattle.elaborations.specs.Ports.{HasPortsOnce};
 ghost use Rattle.verilog_reader.specs.Netlists.{Reads};
 
 /// The names of the ports of a module that is read differ.
-#[tactic(auto, using(crate::proofs::PortLaws::reads_ports_once))]
 pub fn ports_stand_once()
     ensures once { (text : List ℕ) (modules : List Module) → Reads text modules → All HasPortsOnce modules }
 {}
