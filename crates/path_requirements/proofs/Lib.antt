@@ -1,0 +1,7 @@
+pub mod Products
+pub mod RelationLaws
+pub mod Divisors
+pub mod Searching
+pub mod Leasts
+pub mod KindLaws
+pub mod StepCounts
