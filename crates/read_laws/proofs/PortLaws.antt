@@ -75,9 +75,9 @@ once-listed before (p ∷ ps) none =
     let both = append-none (one_if (is_listed before p.named.name) p.named) (listed_again (before ++ p ∷ []) ps) none in
     let rest = once-listed (before ++ p ∷ []) ps both.1 in (
       AllPairs-cons Others p ps
-      (All-weaker (λ q. is_listed (before ++ p ∷ []) q.named.name ≡ false) (Others p) (λ q not_listed. (listed-append before p q.named.name not_listed).1) ps rest.1) rest.0,
+          (All-weaker (λ q. is_listed (before ++ p ∷ []) q.named.name ≡ false) (Others p) (λ q not_listed. (listed-append before p q.named.name not_listed).1) ps rest.1) rest.0,
       All-cons (λ q. is_listed before q.named.name ≡ false) p ps (one_if-none (is_listed before p.named.name) p.named both.0)
-      (All-weaker (λ q. is_listed (before ++ p ∷ []) q.named.name ≡ false) (λ q. is_listed before q.named.name ≡ false) (λ q not_listed. (listed-append before p q.named.name not_listed).0) ps rest.1),
+          (All-weaker (λ q. is_listed (before ++ p ∷ []) q.named.name ≡ false) (λ q. is_listed before q.named.name ≡ false) (λ q not_listed. (listed-append before p q.named.name not_listed).0) ps rest.1),
     )
 
 pairs-map : {X Y : Type 0} (R : Y → Y → Type 0) (f : X → Y) (xs : List X) → AllPairs (λ x y. R (f x) (f y)) xs → AllPairs R (map f xs)
@@ -96,8 +96,8 @@ assembled-fine t a made = by_test (is_formed t) made
     fine : Fine (record { «module» = module_of t; fault = earliest (breaches t) })
     fine none =
         let listed = append-none (listed_again [] t.header)
-            (declared_again (header_declarations None t.header) (flat_map item_declarations t.items) ++ undirected (first_declared (declarations t)) t.header)
-            (earliest-none (breaches t) none) in
+        (declared_again (header_declarations None t.header) (flat_map item_declarations t.items) ++ undirected (first_declared (declarations t)) t.header)
+        (earliest-none (breaches t) none) in
         pairs-map (λ p q. bytes_eq p.name q.name ≡ false) (port_of (first_declared (declarations t))) t.header (once-listed [] t.header listed.0).0
 
     by_test : (b : Bool) → (if b then Some (record { «module» = module_of t; fault = earliest (breaches t) }) else None) ≡ Some a → Fine a
