@@ -151,7 +151,7 @@ module _ (d : Design) (parents : (p : ℕ) → p < length d.places → HasParent
         let wayp = way_down-printed r p belowp inp in
         let wayq = way_down-printed r q belowq inq in
         let names = joined-injective wayp.0 wayq.0 (way_down-some r p belowp inp apartp wayp.0 wayp.1) (way_down-some r q belowq inq apartq wayq.0 wayq.1)
-            (ap (join_with_byte 47) (sym wayp.1) ∙ (same ∙ ap (join_with_byte 47) wayq.1)) in
+        (ap (join_with_byte 47) (sym wayp.1) ∙ (same ∙ ap (join_with_byte 47) wayq.1)) in
         way_down-injective r p q belowp belowq inp inq (wayp.1 ∙ (ap (map printed) names ∙ sym wayq.1))
 
     -- a pin's name determines place, port and bit

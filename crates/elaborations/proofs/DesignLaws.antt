@@ -1,6 +1,6 @@
 -- An elaborated netlist with its wires is a flat design.
-use Rattle.std.specs.Prelude.{◌≡◌, ℕ, ◌<◌, ◌≤◌, ◌+◌, ◌==◌, Bool, true, false, List, [], ◌∷◌, ◌++◌, map, filter, flat_map, length, Option, Some, None, Result, Ok, Err, All, AllPairs, Contains, slice_index_or, zero, suc, ◌⊎◌, if◌then◌else◌}
-use Rattle.std.specs.List.{AllZip, range_with_len}
+use Rattle.std.specs.Prelude.{◌≡◌, ℕ, ◌<◌, ◌≤◌, ◌+◌, Bool, true, false, List, [], length, Option, Some, None, All, AllPairs, Contains, slice_index_or, ◌⊎◌, if◌then◌else◌}
+use Rattle.std.specs.List.{AllZip}
 use Rattle.std.specs.Str.{bytes_eq}
 use Rattle.std.proofs.Common.{true≢false, arith, sym, ◌∙◌, refl, ap, subst, inl, inr}
 use Rattle.std.proofs.lemmas.List.Elements.{All-nil, All-map, All-weaker, All-contains, All-from_get_or}
@@ -10,25 +10,24 @@ use Rattle.bud_design.specs.declared.designs.Place.{Place}
 use Rattle.bud_design.specs.declared.designs.Pin.{Pin}
 use Rattle.bud_design.specs.declared.designs.Wire.{Wire}
 use Rattle.bud_design.specs.Designs.{Design, place_at, pin_at, is_input, is_output}
-use Rattle.bud_design.specs.DesignRules.{IsDesign, IsWireIn, Drives, IsLoad, HasPrintedForm, IsPrintedForm}
+use Rattle.bud_design.specs.DesignRules.{IsDesign, IsWireIn, HasPrintedForm, IsPrintedForm}
 use Rattle.bud_design.specs.Lists.{Lists}
 use Rattle.bud_design.specs.Names.{printed}
 use Rattle.bud_design.proofs.DesignNames.{named_cells-differ, named_pins-differ}
 use Rattle.bud_design.proofs.NameLaws.{IsShort, printed-injective}
-use Rattle.module_nets.specs.Nets.{PortBit, port_bits, same_number, module_called}
-use Rattle.net_drivers.specs.declared.pins.LocalPin.{LocalPin}
+use Rattle.module_nets.specs.Nets.{PortBit, port_bits, same_number}
 use Rattle.net_drivers.specs.declared.pins.LocalWire.{LocalWire}
 use Rattle.net_drivers.specs.Drivers.{local_wires}
-use Rattle.elaborations.specs.Elaborations.{IsFlatDesign, all_wires, wires_in, wire_at, local_wires_of, pin_number, place_of, first_pin, module_of, instances_in, ends_before}
-use Rattle.elaborations.specs.Walks.{children, StandsFor, IsOf, HasInside, IsFilled, HasItsParent, IsInstanceTree, pins_in}
-use Rattle.elaborations.proofs.Called.{find-passes}
-use Rattle.elaborations.proofs.Driving.{IsOwnBit, IsChildBit, IsLocal, IsLocalAt, IsDriving, IsLoading, JoinsRightly, local-wires-right}
-use Rattle.elaborations.proofs.Lists.{AllZip-at, AllZip-length, All-flat_map, comes-from, flat_map-at, by_lt, filter-range-within}
-use Rattle.elaborations.proofs.PinNumbers.{no_bit, pin_of, IsPinOf, pin-of, pins-of-all, pins-together, pins-from-place}
-use Rattle.elaborations.proofs.PortBits.{BitsApart, HasPortsOnce, port_bits-apart}
+use Rattle.elaborations.specs.Elaborations.{IsFlatDesign, all_wires, wires_in, wire_at, local_wires_of, place_of, first_pin, module_of, ends_before}
+use Rattle.elaborations.specs.Walks.{children, StandsFor, IsOf, HasInside, IsInstanceTree}
+use Rattle.elaborations.proofs.Driving.{IsOwnBit, IsChildBit, IsLocalAt, JoinsRightly, local-wires-right}
+use Rattle.elaborations.proofs.Lists.{AllZip-at, AllZip-length, All-flat_map, by_lt, filter-range-within}
+use Rattle.elaborations.proofs.PinNumbers.{no_bit, IsPinOf, pin-of, pins-of-all, pins-together, pins-from-place}
+use Rattle.elaborations.specs.Ports.{HasPortsOnce}
+use Rattle.elaborations.proofs.PortBits.{BitsApart, port_bits-apart}
 use Rattle.elaborations.proofs.Siblings.{no_instance, tree-parents, tree-siblings}
 use Rattle.elaborations.proofs.Tops.{find-all}
-use Rattle.elaborations.proofs.Trees.{elaborated-tree}
+use Rattle.elaborations.proofs.Trees.{elaborated_tree}
 
 module _ (modules : List Module) (places : List Place) (pins : List Pin) (tree : IsInstanceTree modules places pins) where
   -- a pin that a wire of a place joins: of the place, or of one that stands in it
@@ -121,10 +120,10 @@ module _ (modules : List Module) (places : List Place) (pins : List Pin) (tree :
         let bits = port_bits atv.«module» in
         let belowk : atw.number < length bits = subst (λ m. atw.number < length (port_bits m)) (sym one) atw.below in
         let ports : (slice_index_or bits atv.number no_bit).port ≡ (slice_index_or bits atw.number no_bit).port =
-            printed-injective (slice_index_or bits atv.number no_bit).port (slice_index_or bits atw.number no_bit).port
-            (sym (ap (λ x. x.port) atv.is) ∙ (port ∙ (ap (λ x. x.port) atw.is ∙ ap (λ m. printed (slice_index_or (port_bits m) atw.number no_bit).port) (sym one)))) in
+        printed-injective (slice_index_or bits atv.number no_bit).port (slice_index_or bits atw.number no_bit).port
+        (sym (ap (λ x. x.port) atv.is) ∙ (port ∙ (ap (λ x. x.port) atw.is ∙ ap (λ m. printed (slice_index_or (port_bits m) atw.number no_bit).port) (sym one)))) in
         let numbers : (slice_index_or bits atv.number no_bit).bit ≡ (slice_index_or bits atw.number no_bit).bit =
-            sym (ap (λ x. x.bit) atv.is) ∙ (bit ∙ (ap (λ x. x.bit) atw.is ∙ ap (λ m. (slice_index_or (port_bits m) atw.number no_bit).bit) (sym one))) in
+        sym (ap (λ x. x.bit) atv.is) ∙ (bit ∙ (ap (λ x. x.bit) atw.is ∙ ap (λ m. (slice_index_or (port_bits m) atw.number no_bit).bit) (sym one))) in
         let apart = port_bits-apart atv.«module» (find-all HasPortsOnce (λ m. bytes_eq (printed m.name) (place_at places atv.place).«module») modules atv.«module» once atv.called) in
         let number : atv.number ≡ atw.number = same-number bits apart atv.number atw.number atv.below belowk ports numbers in
         atv.at ∙ (ap (λ q. first_pin pins q + atv.number) same ∙ (ap (λ k. first_pin pins atw.place + k) number ∙ sym atw.at))
@@ -166,6 +165,6 @@ module _ (modules : List Module) (places : List Place) (pins : List Pin) (tree :
             ((slice_index_or (port_bits at.«module») at.number no_bit).port, ap (λ x. x.port) at.is))
 
 -- what elaboration makes of a netlist, with its wires, is a flat design
-pub flat-design : (modules : List Module) (top : Option (List ℕ)) (d : Design) → All HasPortsOnce modules → All (λ v. IsShort v.bit) d.pins → IsFlatDesign modules top d → IsDesign d
-flat-design modules top d once short flat =
-    tree-design modules d.places d.pins (elaborated-tree modules top (record { places = d.places; pins = d.pins; count = flat.count }) flat.built) once 4194304 d.wires short flat.wires
+pub flat_design : (modules : List Module) (top : Option (List ℕ)) (d : Design) → All HasPortsOnce modules → All (λ v. IsShort v.bit) d.pins → IsFlatDesign modules top d → IsDesign d
+flat_design modules top d once short flat =
+    tree-design modules d.places d.pins (elaborated_tree modules top (record { places = d.places; pins = d.pins; count = flat.count }) flat.built) once 4194304 d.wires short flat.wires

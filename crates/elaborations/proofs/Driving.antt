@@ -1,9 +1,9 @@
 -- What drives a net bit is a pin that can, and a load is a pin that can be one.
-use Rattle.std.specs.Prelude.{◌≡◌, ℕ, ◌<◌, ◌+◌, Bool, true, false, List, [], ◌∷◌, ◌++◌, map, filter, find, flat_map, filter_map, length, Option, Some, None, All, Contains, slice_index_or, zero, suc, if◌then◌else◌}
+use Rattle.std.specs.Prelude.{◌≡◌, ℕ, ◌<◌, ◌+◌, Bool, true, false, List, [], ◌∷◌, ◌++◌, map, filter, find, flat_map, filter_map, length, Option, Some, None, All, slice_index_or, zero, suc}
 use Rattle.std.specs.Option.{option_map}
 use Rattle.std.proofs.Common.{true≢false, arith, sym, ◌∙◌, refl, ap, subst}
 use Rattle.std.proofs.lemmas.List.{length-append, get_or-append-add}
-use Rattle.std.proofs.lemmas.List.Elements.{All-nil, All-cons, All-head, All-tail, All-append, All-weaker}
+use Rattle.std.proofs.lemmas.List.Elements.{All-nil, All-cons, All-head, All-tail, All-append}
 use Rattle.bud_syntax.specs.declared.modules.Dir.{Dir}
 use Rattle.bud_syntax.specs.declared.modules.Instance.{Instance}
 use Rattle.bud_syntax.specs.declared.modules.Assign.{Assign}
@@ -61,7 +61,7 @@ module _ (modules : List Module) (m : Module) where
   suffix-own m passes front b bs is dir =
       let none : length front + 0 ≡ length front = omega arith in
       let at : slice_index_or (port_bits m) (length front) no_bit ≡ b =
-          ap (λ xs. slice_index_or xs (length front) no_bit) is ∙ (ap (λ k. slice_index_or (front ++ b ∷ bs) k no_bit) (sym none) ∙ get_or-append-add front (b ∷ bs) 0 no_bit) in
+      ap (λ xs. slice_index_or xs (length front) no_bit) is ∙ (ap (λ k. slice_index_or (front ++ b ∷ bs) k no_bit) (sym none) ∙ get_or-append-add front (b ∷ bs) 0 no_bit) in
       record { below = omega (arith, ap length is, length-append front (b ∷ bs)); dir = ap (λ b. passes b.dir) at ∙ dir }
 
   snoc : {X : Type 0} (front : List X) (b : X) (bs : List X) → front ++ b ∷ bs ≡ (front ++ b ∷ []) ++ bs

@@ -1,5 +1,5 @@
 -- What entering a module adds to the places and pins so far.
-use Rattle.std.specs.Prelude.{◌≡◌, ℕ, ◌<◌, ◌≤◌, ◌+◌, Bool, true, false, List, [], ◌∷◌, ◌++◌, map, length, Option, Some, None, Result, Ok, Err, zero, suc, All, slice_index_or, if◌then◌else◌}
+use Rattle.std.specs.Prelude.{◌≡◌, ℕ, ◌<◌, ◌+◌, Bool, true, false, List, [], ◌∷◌, ◌++◌, length, Option, Some, None, Result, Ok, Err, zero, suc, All, if◌then◌else◌}
 use Rattle.std.proofs.Common.{true≢false, arith, sym, ◌∙◌, refl, ap, subst, append-nil}
 use Rattle.std.proofs.lemmas.List.{append_assoc, length-append, get_or-append-add}
 use Rattle.std.proofs.lemmas.List.Elements.{All-head, All-tail, All-nil, All-cons}
@@ -15,7 +15,7 @@ use Rattle.module_nets.specs.declared.faults.ElabFault.{ElabFault}
 use Rattle.module_nets.specs.Nets.{module_called}
 use Rattle.module_nets.specs.Entering.{Entry, entered_count, top_inout, name_twice, too_large, body_fault, instance_fault, child_fault, assign_fault}
 use Rattle.elaborations.specs.Elaborations.{Built, ◌>>=◌, pins_at, with_place, counted, entry_below, placed, all_placed, enter, entering_fault, two_drivers, module_of}
-use Rattle.elaborations.specs.Walks.{children, StandsFor, IsOf, AreInside, HasInside, pins_in, own_names}
+use Rattle.elaborations.specs.Walks.{children, StandsFor, AreInside, HasInside, pins_in, own_names}
 use Rattle.elaborations.proofs.Called.{called-printed}
 use Rattle.elaborations.proofs.Walks.{AreInside-append, AreInside-plain, AreInside-nil}
 

@@ -9,3 +9,4 @@ pub mod Siblings
 pub mod PinNumbers
 pub mod Driving
 pub mod DesignLaws
+pub mod OneDesign

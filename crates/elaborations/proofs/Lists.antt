@@ -1,7 +1,7 @@
 -- Lists by parts: ranges, filters and pairs place by place.
 use Rattle.std.specs.Prelude.{◌≡◌, ℕ, ◌<◌, ◌≤◌, ◌+◌, Bool, true, false, List, [], ◌∷◌, ◌++◌, filter, flat_map, length, zero, suc, nat_lt, ◌-◌, All, AllPairs, slice_index_or}
 use Rattle.std.specs.List.{AllZip, range_with_len}
-use Rattle.std.proofs.Common.{true≢false, arith, sym, ◌∙◌, refl, ap, subst}
+use Rattle.std.proofs.Common.{arith, ◌∙◌, refl, ap, subst}
 use Rattle.std.proofs.lemmas.List.{length-append, get_or_append_left, get_or-append-add}
 use Rattle.std.proofs.lemmas.List.Elements.{All-nil, All-cons, All-head, All-tail, All-append, All-weaker}
 use Rattle.std.proofs.lemmas.List.Kept.{AllPairs-cons}
@@ -76,7 +76,7 @@ flat_map-at f a c n k d less below = by_rest (n - (c + 1)) (omega (arith, less))
         let front = flat_map f (range_with_len a c) in
         let back = flat_map f (range_with_len (a + c + 1) r) in
         let whole : flat_map f (range_with_len a n) ≡ front ++ (f (a + c) ++ back) =
-            ap (λ n. flat_map f (range_with_len a n)) same ∙ (ap (flat_map f) (range-append a c (suc r)) ∙ flat_map-append f (range_with_len a c) (range_with_len (a + c) (suc r))) in (
+        ap (λ n. flat_map f (range_with_len a n)) same ∙ (ap (flat_map f) (range-append a c (suc r)) ∙ flat_map-append f (range_with_len a c) (range_with_len (a + c) (suc r))) in (
           omega (arith, below, ap length whole, length-append front (f (a + c) ++ back), length-append (f (a + c)) back),
           ap (λ xs. slice_index_or xs (length front + k) d) whole ∙ (get_or-append-add front (f (a + c) ++ back) k d ∙ get_or_append_left (f (a + c)) back d k below),
         )

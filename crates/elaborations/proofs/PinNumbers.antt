@@ -1,7 +1,7 @@
 -- The numbers of pins: those of a place stand together, in the order of its module's port bits.
-use Rattle.std.specs.Prelude.{◌≡◌, ℕ, ◌<◌, ◌≤◌, ◌+◌, ◌-◌, ◌==◌, Bool, true, false, List, [], ◌∷◌, ◌++◌, map, flat_map, length, Option, Some, None, All, AllPairs, slice_index_or, zero, suc, if◌then◌else◌}
+use Rattle.std.specs.Prelude.{◌≡◌, ℕ, ◌<◌, ◌≤◌, ◌+◌, ◌-◌, ◌==◌, Bool, true, false, List, [], ◌∷◌, ◌++◌, map, flat_map, length, Option, Some, None, All, AllPairs, slice_index_or, zero, suc}
 use Rattle.std.specs.List.{position_from, range_with_len}
-use Rattle.std.proofs.Common.{true≢false, arith, sym, ◌∙◌, refl, ap, subst, eq-eqb}
+use Rattle.std.proofs.Common.{arith, sym, ◌∙◌, refl, ap, subst, eq-eqb}
 use Rattle.std.proofs.lemmas.Bool.Decides.{Decides-eqb}
 use Rattle.std.proofs.lemmas.List.{length-map}
 use Rattle.std.proofs.lemmas.List.Elements.{All-nil, All-head, All-tail, All-map, All-weaker}
@@ -12,12 +12,10 @@ use Rattle.bud_design.specs.declared.designs.Place.{Place}
 use Rattle.bud_design.specs.declared.designs.Pin.{Pin}
 use Rattle.bud_design.specs.Designs.{place_at, pin_at}
 use Rattle.bud_design.specs.Names.{printed}
-use Rattle.bud_design.proofs.NameLaws.{printed-injective}
 use Rattle.module_nets.specs.Nets.{PortBit, port_bits}
 use Rattle.elaborations.specs.Elaborations.{first_pin, or_zero, module_of, pins_at}
-use Rattle.elaborations.specs.Walks.{IsOf, IsInstanceTree, pins_in, pins_of_module}
-use Rattle.elaborations.proofs.Lists.{All-flat_map, AllPairs-append, flat_map-at, comes-from, ComesFrom, range-append, by_lt}
-use Rattle.elaborations.proofs.PortBits.{BitsApart, HasPortsOnce, port_bits-apart}
+use Rattle.elaborations.specs.Walks.{IsInstanceTree, pins_in, pins_of_module}
+use Rattle.elaborations.proofs.Lists.{All-flat_map, AllPairs-append, flat_map-at, comes-from, range-append}
 
 abbrev pub no_bit : PortBit
 no_bit = record { port = []; bit = None; dir = Input }
@@ -89,8 +87,8 @@ module _ (modules : List Module) (places : List Place) where
           let front = flat_map (pins_in modules places) (range_with_len 0 p) in
           let back = flat_map (pins_in modules places) (range_with_len (p + 1) r) in
           let whole : flat_map (pins_in modules places) (range_with_len 0 n) ≡ front ++ (pins_in modules places p ++ back) =
-              ap (λ n. flat_map (pins_in modules places) (range_with_len 0 n)) same ∙ (ap (flat_map (pins_in modules places)) (range-append 0 p (suc r))
-              ∙ (flat_map-append (pins_in modules places) (range_with_len 0 p) (range_with_len (0 + p) (suc r)) ∙ ap (λ q. front ++ flat_map (pins_in modules places) (range_with_len q (suc r))) (zero_plus p))) in
+          ap (λ n. flat_map (pins_in modules places) (range_with_len 0 n)) same ∙ (ap (flat_map (pins_in modules places)) (range-append 0 p (suc r))
+          ∙ (flat_map-append (pins_in modules places) (range_with_len 0 p) (range_with_len (0 + p) (suc r)) ∙ ap (λ q. front ++ flat_map (pins_in modules places) (range_with_len q (suc r))) (zero_plus p))) in
           ap (λ vs. first_pin vs p) whole
           ∙ ap or_zero (position-behind (λ v. v.place == p) 0 front (pins_in modules places p ++ back) (All-weaker (λ v. v.place < p) (λ v. (v.place == p) ≡ false) other front (pins-of-all p))
           ∙ (begins (pins_in modules places p) back (0 + length front) some (in-its-place p (module_of modules (place_at places p))) ∙ ap (λ k. Some k) (zero_plus (length front))))
@@ -136,7 +134,7 @@ pins-from-place modules places pins tree v below =
     let filled = tree.filled from.number from.less in
     let inside : from.place < length (pins_in modules places from.number) = subst (λ q. from.place < length (pins_in modules places q)) (sym (zero_plus from.number)) from.below in
     let long : length (pins_in modules places from.number) ≡ length (port_bits filled.«module») =
-        ap (λ o. length (pins_of_module from.number o)) filled.is_of.called ∙ length-map (port_bits filled.«module») (pin_of from.number) in
+    ap (λ o. length (pins_of_module from.number o)) filled.is_of.called ∙ length-map (port_bits filled.«module») (pin_of from.number) in
     let short : from.place < length (port_bits filled.«module») = omega (arith, inside, long) in
     let first = first-of modules places (length places) from.number from.less (omega (arith, inside)) in
     let at : v ≡ first_pin whole from.number + from.place = from.is ∙ ap (λ k. k + from.place) (sym first) in

@@ -1,11 +1,11 @@
 -- The bits of a module's ports differ in port or number, where the names of its ports differ.
-use Rattle.std.specs.Prelude.{◌≡◌, ℕ, ◌<◌, ◌≤◌, ◌+◌, ◌-◌, nat_le, Bool, true, false, List, [], ◌∷◌, ◌++◌, map, flat_map, reverse, length, Option, Some, None, All, AllPairs, slice_index_or, zero, suc, if◌then◌else◌}
+use Rattle.std.specs.Prelude.{◌≡◌, ℕ, ◌<◌, ◌+◌, ◌-◌, nat_le, Bool, true, false, List, [], ◌∷◌, map, flat_map, reverse, length, Option, Some, None, All, AllPairs, slice_index_or}
 use Rattle.std.specs.List.{range_with_len}
 use Rattle.std.specs.Str.{bytes_eq}
-use Rattle.std.proofs.Common.{true≢false, arith, sym, ◌∙◌, refl, ap, subst}
-use Rattle.std.proofs.lemmas.List.{length-reverse, get_or-reverse, length-map}
+use Rattle.std.proofs.Common.{true≢false, arith, sym, ◌∙◌, refl, ap}
+use Rattle.std.proofs.lemmas.List.{length-reverse, get_or-reverse}
 use Rattle.std.proofs.lemmas.List.FromFn.{length-range_with_len, get_or-range_with_len}
-use Rattle.std.proofs.lemmas.List.Elements.{All-nil, All-cons, All-head, All-tail, All-append, All-map, All-weaker}
+use Rattle.std.proofs.lemmas.List.Elements.{All-nil, All-head, All-tail, All-append, All-map, All-weaker}
 use Rattle.std.proofs.lemmas.List.Kept.{AllPairs-cons}
 use Rattle.std.proofs.lemmas.Slice.Eq.{bytes_eq-Decides}
 use Rattle.bud_syntax.specs.declared.modules.Range.{Range}
@@ -13,6 +13,7 @@ use Rattle.bud_syntax.specs.declared.modules.Port.{Port}
 use Rattle.bud_syntax.specs.declared.modules.Module.{Module}
 use Rattle.bud_design.proofs.ClassLaws.{pairs-head, pairs-tail}
 use Rattle.module_nets.specs.Nets.{PortBit, numbers_between, range_bits, port_bits}
+use Rattle.elaborations.specs.Ports.{HasPortsOnce}
 use Rattle.elaborations.proofs.Lists.{AllPairs-append}
 
 abbrev Apart : {X : Type 0} → X → X → Type 0
@@ -84,10 +85,6 @@ ports-apart (p ∷ ps) differ =
     (λ c apart port bit. true≢false (sym ((bytes_eq-Decides p.name c.port).1 (sym is ∙ port)) ∙ apart)) (flat_map bits_of_one ps)
     (others-named p.name ps (pairs-head (λ p q. bytes_eq p.name q.name ≡ false) p ps differ)))
     (bits_of_one p) (named-of p))
-
--- the names of a module's ports differ
-abbrev pub HasPortsOnce : Module → Type 0
-HasPortsOnce m = AllPairs (λ p q. bytes_eq p.name q.name ≡ false) m.ports
 
 pub port_bits-apart : (m : Module) → HasPortsOnce m → AllPairs BitsApart (port_bits m)
 port_bits-apart m once = ports-apart m.ports once

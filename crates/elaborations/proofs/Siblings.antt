@@ -1,6 +1,5 @@
 -- Places that stand in one place have different names.
-use Rattle.std.specs.Prelude.{◌≡◌, ℕ, ◌<◌, ◌≤◌, ◌⊎◌, zero, suc, Bool, true, false, List, [], ◌∷◌, ◌++◌, map, length, Option, Some, None, All, AllPairs, slice_index_or}
-use Rattle.std.specs.List.{AllZip}
+use Rattle.std.specs.Prelude.{◌≡◌, ℕ, ◌<◌, ◌≤◌, ◌⊎◌, zero, suc, Bool, true, false, List, [], ◌∷◌, ◌++◌, map, length, Option, Some, None, slice_index_or}
 use Rattle.std.specs.Str.{bytes_eq}
 use Rattle.std.proofs.Common.{true≢false, arith, sym, ◌∙◌, refl, ap, subst, eq-eqb, inl, inr}
 use Rattle.std.proofs.lemmas.Slice.Eq.{bytes_eq-Decides}
@@ -14,7 +13,7 @@ use Rattle.bud_design.specs.DesignRules.{HasParent}
 use Rattle.bud_design.specs.Names.{printed}
 use Rattle.bud_design.proofs.NameLaws.{printed-injective}
 use Rattle.module_nets.specs.Nets.{same_number}
-use Rattle.elaborations.specs.Walks.{children, StandsFor, HasInside, IsFilled, HasItsParent, IsInstanceTree, own_names}
+use Rattle.elaborations.specs.Walks.{children, StandsFor, HasInside, IsInstanceTree, own_names}
 use Rattle.elaborations.proofs.Lists.{AllZip-at, AllPairs-right, filter-range-at, by_lt}
 use Rattle.elaborations.proofs.Tops.{Differ_names, first_again-none}
 
@@ -80,11 +79,11 @@ module _ (modules : List Module) (places : List Place) (pins : List Pin) (tree :
       let isp = AllZip-at (StandsFor modules places) m.instances kids no_instance 0 inside.0 atp.0 atp.1.0 in
       let isq = AllZip-at (StandsFor modules places) m.instances kids no_instance 0 inside.0 atq.0 atq.1.0 in
       let differ = AllPairs-right (λ a b. bytes_eq a b ≡ false) (map (λ n. n.name) m.nets) (map (λ i. i.name) m.instances)
-          (AllPairs-right (λ a b. bytes_eq a b ≡ false) (map (λ p. p.name) m.ports) (map (λ n. n.name) m.nets ++ map (λ i. i.name) m.instances) (first_again-none [] (own_names m) inside.1).0) in
+      (AllPairs-right (λ a b. bytes_eq a b ≡ false) (map (λ p. p.name) m.ports) (map (λ n. n.name) m.nets ++ map (λ i. i.name) m.instances) (first_again-none [] (own_names m) inside.1).0) in
       let namep : (place_at places p).name ≡ printed (slice_index_or m.instances atp.0 no_instance).name = ap (λ q. (place_at places q).name) (sym atp.1.1) ∙ isp.1.name in
       let nameq : (place_at places q).name ≡ printed (slice_index_or m.instances atq.0 no_instance).name = ap (λ q. (place_at places q).name) (sym atq.1.1) ∙ isq.1.name in
       let number : atp.0 ≡ atq.0 = names-at m.instances atp.0 atq.0 differ isp.0 isq.0
-          (printed-injective (slice_index_or m.instances atp.0 no_instance).name (slice_index_or m.instances atq.0 no_instance).name (sym namep ∙ (same ∙ nameq))) in
+      (printed-injective (slice_index_or m.instances atp.0 no_instance).name (slice_index_or m.instances atq.0 no_instance).name (sym namep ∙ (same ∙ nameq))) in
       sym atp.1.1 ∙ (ap (λ k. slice_index_or kids k 0) number ∙ atq.1.1)
 
   only-top : (p : ℕ) → p < length places → (place_at places p).parent ≡ None → p ≡ 0

@@ -2,9 +2,7 @@
 use Rattle.std.specs.Prelude.{◌≡◌, ℕ, ◌<◌, ◌&&◌, ◌||◌, not, Bool, true, false, List, [], ◌∷◌, map, length, filter, find, flat_map, Option, Some, None, Result, Ok, Err, All, AllPairs, slice_index_or, zero, suc, if◌then◌else◌}
 use Rattle.std.specs.Option.{option_or}
 use Rattle.std.specs.Str.{bytes_eq}
-use Rattle.std.specs.List.{list_any}
 use Rattle.std.proofs.Common.{true≢false, arith, sym, ◌∙◌, refl, ap, subst}
-use Rattle.std.proofs.lemmas.Bool.Decides.{Decides-eqb}
 use Rattle.std.proofs.lemmas.Slice.Eq.{bytes_eq-Decides}
 use Rattle.std.proofs.lemmas.List.Elements.{All-nil, All-cons, All-head, All-tail, All-map, All-filter, All-weaker, filter_passes}
 use Rattle.std.proofs.lemmas.List.Kept.{AllPairs-cons}
@@ -13,7 +11,7 @@ use Rattle.bud_design.specs.Lists.{only, has_name, first_again}
 use Rattle.bud_design.specs.Names.{Named, object_of, meaning, printed, plain}
 use Rattle.bud_design.proofs.ClassLaws.{pairs-head, pairs-tail}
 use Rattle.module_nets.specs.declared.faults.ElabFault.{ElabFault}
-use Rattle.module_nets.specs.declared.faults.ElabFault.TheVariants.{NoTop, ManyTops, ModuleTwice}
+use Rattle.module_nets.specs.declared.faults.ElabFault.TheVariants.{NoTop}
 use Rattle.module_nets.specs.Nets.{module_called}
 use Rattle.module_nets.specs.Tops.{named_modules, plain_module, roots, one_root, chosen, unless_twice, top_module}
 
@@ -46,9 +44,9 @@ first_again-none seen (name ∷ names) none = by_test (first_again-none (name �
     by_test rest false is none =
         let others = rest none in (
           AllPairs-cons (λ a b. bytes_eq a b ≡ false) name names
-          (All-weaker (λ n. has_name (name ∷ seen) n ≡ false) (λ n. bytes_eq name n ≡ false) (λ n not_seen. (has_name-seen seen name n not_seen).0) names others.1) others.0,
+              (All-weaker (λ n. has_name (name ∷ seen) n ≡ false) (λ n. bytes_eq name n ≡ false) (λ n not_seen. (has_name-seen seen name n not_seen).0) names others.1) others.0,
           All-cons (λ n. has_name seen n ≡ false) name names is
-          (All-weaker (λ n. has_name (name ∷ seen) n ≡ false) (λ n. has_name seen n ≡ false) (λ n not_seen. (has_name-seen seen name n not_seen).1) names others.1),
+              (All-weaker (λ n. has_name (name ∷ seen) n ≡ false) (λ n. has_name seen n ≡ false) (λ n not_seen. (has_name-seen seen name n not_seen).1) names others.1),
         )
 
 own-called : (ms : List Module) → Differ_names (map (λ m. m.name) ms) → All (λ m. module_called ms m.name ≡ Some m) ms

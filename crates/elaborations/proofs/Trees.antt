@@ -1,21 +1,19 @@
 -- The places and pins of an elaborated netlist are its tree of instances.
-use Rattle.std.specs.Prelude.{◌≡◌, ℕ, ◌<◌, ◌≤◌, ◌+◌, Bool, true, false, List, [], ◌∷◌, ◌++◌, flat_map, length, Option, Some, None, Result, Ok, Err, zero, suc}
-use Rattle.std.specs.List.{AllZip, range_with_len}
+use Rattle.std.specs.Prelude.{◌≡◌, ℕ, ◌<◌, Bool, true, false, List, [], ◌∷◌, ◌++◌, length, Option, Some, None, Result, Ok, Err}
 use Rattle.std.proofs.Common.{true≢false, arith, sym, ◌∙◌, refl, ap, subst, append-nil}
 use Rattle.bud_syntax.specs.declared.modules.Module.{Module}
 use Rattle.bud_design.specs.declared.designs.Place.{Place}
 use Rattle.bud_design.specs.declared.designs.Pin.{Pin}
-use Rattle.bud_design.specs.Designs.{place_at}
 use Rattle.bud_design.specs.Names.{printed}
 use Rattle.module_nets.specs.declared.faults.ElabFault.{ElabFault}
-use Rattle.module_nets.specs.Nets.{same_number, module_called}
+use Rattle.module_nets.specs.Nets.{module_called}
 use Rattle.module_nets.specs.Tops.{top_module}
 use Rattle.elaborations.specs.Elaborations.{Built, ◌>>=◌, pins_at, enter, top_entry, top_built, elaborated, module_of}
-use Rattle.elaborations.specs.Walks.{children, StandsFor, IsFilled, AreInside, HasInside, pins_in, IsInstanceTree}
+use Rattle.elaborations.specs.Walks.{children, IsFilled, AreInside, HasInside, pins_in, IsInstanceTree}
 use Rattle.elaborations.proofs.Lists.{by_lt}
 use Rattle.elaborations.proofs.Called.{called-printed}
-use Rattle.elaborations.proofs.Walks.{children-skip, filled-with}
-use Rattle.elaborations.proofs.Growing.{Grows, IsClean, enter-grows}
+use Rattle.elaborations.proofs.Walks.{filled-with}
+use Rattle.elaborations.proofs.Growing.{IsClean, enter-grows}
 use Rattle.elaborations.proofs.Tops.{top-called}
 
 abbrev top_place : Module → Place
@@ -56,8 +54,8 @@ is_done (Ok b) = true
 is_done (Err fault) = false
 
 -- elaboration makes the tree of instances
-pub elaborated-tree : (modules : List Module) (top : Option (List ℕ)) (built : Built) → elaborated modules top ≡ Ok built → IsInstanceTree modules built.places built.pins
-elaborated-tree modules top built done = by_top (top_module modules top) refl done
+pub elaborated_tree : (modules : List Module) (top : Option (List ℕ)) (built : Built) → elaborated modules top ≡ Ok built → IsInstanceTree modules built.places built.pins
+elaborated_tree modules top built done = by_top (top_module modules top) refl done
   where
     by_top : (r : Result Module ElabFault) → top_module modules top ≡ r → (r >>= (λ m. enter 257 modules (top_entry m) 0 (top_built m))) ≡ Ok built → IsInstanceTree modules built.places built.pins
     by_top (Err fault) is done = absurd (true≢false (sym (ap is_done done)))

@@ -1,7 +1,7 @@
 -- The walk over the instances makes the places and pins that it should.
-use Rattle.std.specs.Prelude.{◌≡◌, ℕ, ◌<◌, ◌≤◌, ◌+◌, ◌==◌, Bool, true, false, List, [], ◌∷◌, ◌++◌, map, filter, flat_map, length, Option, Some, None, Result, Ok, Err, zero, suc, ◌⊎◌}
+use Rattle.std.specs.Prelude.{◌≡◌, ℕ, ◌<◌, ◌≤◌, ◌+◌, ◌==◌, Bool, true, false, List, [], ◌∷◌, ◌++◌, filter, flat_map, Some, suc, ◌⊎◌}
 use Rattle.std.specs.List.{AllZip, range_with_len}
-use Rattle.std.proofs.Common.{true≢false, arith, sym, ◌∙◌, refl, ap, subst, inl, inr, append-nil, eq-eqb}
+use Rattle.std.proofs.Common.{arith, sym, ◌∙◌, refl, ap, subst, inl, inr, append-nil, eq-eqb}
 use Rattle.std.proofs.lemmas.List.Elements.{filter-append}
 use Rattle.std.proofs.lemmas.Grind.{flat_map-append}
 use Rattle.bud_syntax.specs.declared.modules.Instance.{Instance}
@@ -36,7 +36,7 @@ children-none places here from n p parents apart out =
     let its = parents q least most in
     parent-apart places p q its.parent its.parent_is (λ same. elim its.before [
       | inl at ↦ apart (sym at ∙ same)
-      | inr between ↦ elim out [ | inl low ↦ absurd (omega (arith, low, between.0, same)) | inr high ↦ absurd (omega (arith, high, between.1, most, same)) ]
+      | inr between ↦ elim out [ inl low ↦ absurd (omega (arith, low, between.0, same)) | inr high ↦ absurd (omega (arith, high, between.1, most, same)) ]
     ]))
 
 -- more places in which nothing of this one stands

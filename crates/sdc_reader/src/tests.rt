@@ -424,19 +424,36 @@ fn single_commands(rt: HostRuntime) {
     }
 }
 
+fn group_count(command: &SdcCommand) -> usize {
+    match command {
+        SdcCommand::MaxDelay { through, .. } => through.len(),
+        _ => 0,
+    }
+}
+
+/// How many objects the group of this place names; 0 where there is none.
+fn group_size(command: &SdcCommand, place: usize) -> usize {
+    match command {
+        SdcCommand::MaxDelay { through, .. } => match through.as_slice().get(place) {
+            Some(group) => group.len(),
+            None => 0,
+        },
+        _ => 0,
+    }
+}
+
 /// What the groups of `-through` name, in their order.
 #[test]
 fn through_groups(rt: HostRuntime) {
     let alloc = rt.alloc();
     let text = b"set_max_delay 1 -through [get_pins g/Z] -through {a b}".as_slice();
     match read_command(alloc, text) {
-        Ok(SdcCommand::MaxDelay { through, .. }) => {
-            let groups = through.as_slice();
-            assert_eq!(rt; groups.len(), 2);
-            assert_eq!(rt; groups[0].len(), 1);
-            assert_eq!(rt; groups[1].len(), 2);
+        Ok(command) => {
+            assert_eq!(rt; group_count(&command), 2);
+            assert_eq!(rt; group_size(&command, 0), 1);
+            assert_eq!(rt; group_size(&command, 1), 2);
         }
-        _ => assert!(rt; false),
+        Err(_) => assert!(rt; false),
     }
     refuses(
         &rt,
