@@ -1,9 +1,9 @@
 -- Names of places and pins below a root: where siblings' names differ, names determine places and pins.
-use Rattle.std.specs.Prelude.{◌≡◌, ℕ, ◌<◌, ◌==◌, ◌&&◌, not, Bool, true, false, List, [], ◌∷◌, ◌++◌, map, length, Option, Some, All, AllPairs, slice_index_or, ◌||◌, zero, suc, ◌-◌, ◌+◌, reverse, take_while, filter}
+use Rattle.std.specs.Prelude.{◌≡◌, ℕ, ◌<◌, ◌==◌, ◌&&◌, not, Bool, true, false, List, [], ◌∷◌, ◌++◌, map, length, Option, Some, All, AllPairs, slice_index_or, ◌||◌, zero, suc, ◌+◌, reverse, take_while, filter}
 use Rattle.std.specs.List.{join_with_byte, prefix_len, range_with_len}
 use Rattle.std.proofs.Common.{true≢false, arith, sym, ◌∙◌, refl, ap, subst, eq-eqb}
-use Rattle.std.proofs.lemmas.List.{map-append, reverse-reverse, length-reverse, get_or-reverse, length-map}
-use Rattle.std.proofs.lemmas.List.Elements.{All-head, All-cons, All-tail, All-map, All-filter, filter_passes}
+use Rattle.std.proofs.lemmas.List.{map-append, reverse-reverse, length-reverse, length-map}
+use Rattle.std.proofs.lemmas.List.Elements.{All-head, All-tail, All-map, All-filter, filter_passes}
 use Rattle.std.specs.Str.{bytes_eq}
 use Rattle.std.proofs.lemmas.Bool.Decides.{Decides-eqb}
 use Rattle.std.proofs.lemmas.Slice.Eq.{bytes_eq-Decides}

@@ -1,6 +1,6 @@
 -- A table is the only list of what it lists.
-use Rattle.std.specs.Prelude.{◌≡◌, ℕ, ◌<◌, ◌⊎◌, Bool, true, false, List, [], ◌∷◌, length, All, AllPairs, Contains, slice_index_or, zero, suc}
-use Rattle.std.proofs.Common.{true≢false, arith, sym, ◌∙◌, refl, ap, subst, inl, inr}
+use Rattle.std.specs.Prelude.{◌≡◌, ◌⊎◌, Bool, true, false, List, [], ◌∷◌, All, AllPairs, Contains, slice_index_or, zero, suc}
+use Rattle.std.proofs.Common.{true≢false, arith, sym, ◌∙◌, refl, ap, inl, inr}
 use Rattle.std.proofs.lemmas.List.Elements.{All-head, All-tail, All-contains}
 use Rattle.bud_design.specs.Lists.{Lists}
 use Rattle.bud_design.proofs.ClassLaws.{pairs-head, pairs-tail}

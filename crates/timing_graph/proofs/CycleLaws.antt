@@ -1,5 +1,5 @@
 -- A sound graph has no cycle; arcs stand in a strict order.
-use Rattle.std.specs.Prelude.{◌≡◌, ℕ, ◌<◌, List, [], ◌∷◌, length, All}
+use Rattle.std.specs.Prelude.{◌≡◌, ℕ, ◌<◌, List, [], ◌∷◌, length, All, Contains}
 use Rattle.std.proofs.Common.{refl, sym, ◌∙◌, ap, subst, arith}
 use Rattle.bud_base.specs.declared.ids.ArcId.{ArcId}
 use Rattle.bud_design.specs.declared.timings.Timing.{Timing}
@@ -8,8 +8,8 @@ use Rattle.bud_design.specs.Designs.{Design}
 use Rattle.bud_design.specs.DesignRules.{IsDesign}
 use Rattle.bud_design.specs.TimingRules.{StartsInLeaf, IsSoundTiming, IsSoundArc, IsSoundGraph}
 use Rattle.bud_design.proofs.ArcOrders.{Leads-never_back}
-use Rattle.bud_design.proofs.ListLaws.{IsStrict, one-list}
-use Rattle.timing_graph.specs.Graphs.{AreArcs, IsGraph}
+use Rattle.bud_design.proofs.TableLaws.{table-same}
+use Rattle.timing_graph.specs.Graphs.{AreArcs, IsGraph, all_arcs}
 use Rattle.timing_graph.proofs.ArcLists.{AreArcs-sound}
 use Rattle.timing_graph.proofs.PinOrders.{before-never_itself, before-trans}
 
@@ -21,14 +21,9 @@ no-cycle d g ring sound cycle =
     Leads-never_back (length d.pins) g.arcs g.order sound.order (λ i below. (sound.arcs i (arc_at [] 0) below).to) cycle.first cycle.others
     (arc_at g.arcs cycle.first.0).from arc.from closed
 
-strict : IsStrict arc_before
-strict = record {
-  never_itself = λ x. before-never_itself x.from x.to;
-  goes_on = λ x y z first second. before-trans x.from x.to y.from y.to z.from z.to first second;
-}
-
 pub one-list_of_arcs : (d : Design) (t : Timing) (xs ys : List Arc) → AreArcs d t xs → AreArcs d t ys → xs ≡ ys
-one-list_of_arcs d t xs ys = one-list arc_before strict _ xs ys
+one-list_of_arcs d t xs ys =
+    table-same arc_before (λ x. before-never_itself x.from x.to) (λ x y z first second. before-trans x.from x.to y.from y.to z.from z.to first second) (Contains (all_arcs d t)) xs ys
 
 pub IsSoundGraph-from_graph : (d : Design) (t : Timing) (g : Graph) → IsDesign d → IsSoundTiming d t → All (StartsInLeaf d) t.pairs → IsGraph d t g → IsSoundGraph d g
 IsSoundGraph-from_graph d t g design timing leaves is =
