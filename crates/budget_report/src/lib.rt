@@ -7,6 +7,8 @@ mod certificates;
 mod faults;
 mod lines;
 mod statuses;
+#[cfg(test)]
+mod tests;
 mod violations;
 
 pub use answers::{holds_text, meets_text, no_paths_text};
