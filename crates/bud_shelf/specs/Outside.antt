@@ -5,7 +5,6 @@ use Rattle.std.specs.Option.{option_map}
 use Rattle.std.specs.Ordering.{nat_cmp}
 use Rattle.std.specs.Cmp.Lexicographic.{slice_cmp}
 use Rattle.std.specs.FinMap.{FinMap, get, insert}
-use Rattle.bud_shelf.specs.declared.shelves.TheConstants.{LONGEST_FILE}
 use Rattle.bud_shelf.specs.declared.shelves.ShelfFault.{ShelfFault}
 use Rattle.bud_shelf.specs.declared.shelves.ShelfFault.TheVariants.{Missing, Failed, TooLong, NoMemory}
 use Rattle.bud_shelf.specs.declared.sinks.SinkFault.{SinkFault}
@@ -14,6 +13,10 @@ use Rattle.bud_shelf.specs.declared.sinks.SinkFault.TheVariants.{Failed as SinkF
 -- the bytes of each file, by the bytes of its name
 abbrev pub Files : Type 0
 Files = FinMap (slice_cmp nat_cmp) (List ℕ)
+
+-- the most bytes of one file that a shelf reads
+abbrev pub longest_file : ℕ
+longest_file = 268435456
 
 -- a count rose; one that stands at 2^64 - 1, its last value, may stay
 abbrev pub Rose : ℕ → ℕ → Type 0
@@ -36,10 +39,10 @@ IsMissing None name before now = Rose before now
 
 -- what `read` left in its buffer, and why it answered so, at a count before and now
 abbrev pub IsReadAnswer : Option Files → ℕ → ℕ → List ℕ → List ℕ → Result (Unit {0}) ShelfFault → Type 0
-IsReadAnswer files before now name into (Ok _) = IsFile files name into × (length into ≤ LONGEST_FILE)
+IsReadAnswer files before now name into (Ok _) = IsFile files name into × (length into ≤ longest_file)
 IsReadAnswer files before now name into (Err Missing) = (into ≡ []) × IsMissing files name before now
 IsReadAnswer files before now name into (Err Failed) = (into ≡ []) × Rose before now
-IsReadAnswer files before now name into (Err (TooLong n)) = (into ≡ []) × (LONGEST_FILE < n) × HasLength files name n
+IsReadAnswer files before now name into (Err (TooLong n)) = (into ≡ []) × (longest_file < n) × HasLength files name n
 IsReadAnswer files before now name into (Err NoMemory) = into ≡ []
 
 -- the named file holds exactly these bytes and all others stay

@@ -170,7 +170,7 @@ impl Sink for MemSink {
 
     ghost faults = { λ s. s.calls.faults };
 
-    /// A call that is to fail takes the first half of the piece, or nothing where there is no memory for it.
+    /// A call that is to fail takes some prefix of the piece.
     fn put(&mut self, bytes: &[u8]) -> Result<(), SinkFault>
         ensures count { self.old.calls.faults ≤ self.new.calls.faults }
         ensures answer { IsPutAnswer (Some self.old.taken) (Some self.new.taken)

@@ -1,5 +1,7 @@
-ghost use Rattle.std.specs.Prelude.{◌≡◌, [], None};
-ghost use Rattle.budget_cli.specs.Disk.{IsLoaded, IsOutside};
+ghost use Rattle.std.specs.Prelude.{◌≡◌, ◌≤◌, [], None, IfOk, length};
+ghost use Rattle.std.specs.IoError.{error_kind};
+ghost use Rattle.bud_shelf.specs.Outside.{longest_file};
+ghost use Rattle.budget_cli.specs.Disk.{IsLoaded, fault_of_kind};
 
 use bud_shelf::{LONGEST_FILE, Shelf, ShelfFault};
 use std::fs::OpenFile;
@@ -48,28 +50,37 @@ impl<R: Files> Shelf for DiskShelf<'_, R> {
     }
 }
 
-/// Adds a file's bytes, of which at most one more than the longest file is read.
+/// Adds the bytes of a file of at most `LONGEST_FILE`. A longer one is told with its own length.
 fn load<R: Files>(rt: &R, name: &str, into: &mut Vec<u8>) -> Result<(), ShelfFault>
     requires { into.old.items ≡ [] }
     ensures { IsLoaded into.new.items result }
 {
     match append(rt, name, into) {
-        Ok(()) if into.len() as u64 > LONGEST_FILE => Err(ShelfFault::TooLong(into.len() as u64)),
-        Ok(()) => Ok(()),
+        Ok(length) if length > LONGEST_FILE => Err(ShelfFault::TooLong(length)),
+        Ok(_) => Ok(()),
         Err(error) => Err(fault_of(&error)),
     }
 }
 
-fn append<R: Files>(rt: &R, name: &str, into: &mut Vec<u8>) -> io::Result<()> {
+/// Adds the bytes of a file that isn't longer than `LONGEST_FILE` and answers its length, as its metadata tells it or, where
+/// it grows as it is read, as many bytes as were added.
+fn append<R: Files>(rt: &R, name: &str, into: &mut Vec<u8>) -> io::Result<u64>
+    requires { into.old.items ≡ [] }
+    ensures { IfOk result (λ count. count ≤ longest_file → length into.new.items ≡ count) }
+{
     let file = fs::open(rt, name)?;
-    let bytes = file.metadata()?.len().min(LONGEST_FILE);
-    into.reserve(bytes as usize + 1)?;
+    let told = file.metadata()?.len();
+    if told > LONGEST_FILE {
+        return Ok(told);
+    }
+    into.reserve(told as usize + 1)?;
     file.take(LONGEST_FILE + 1).read_to_end(into)?;
-    Ok(())
+    Ok(into.len() as u64)
 }
 
+/// The shelf's answer to an error of the system: only a lack of memory is told as such.
 fn fault_of(error: &io::Error) -> ShelfFault
-    ensures { IsOutside result }
+    ensures { result ≡ fault_of_kind (error_kind error.now) }
 {
     match error.kind() {
         ErrorKind::NotFound => ShelfFault::Missing,

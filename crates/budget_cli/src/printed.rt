@@ -1,4 +1,5 @@
-ghost use Rattle.std.specs.Prelude.{None};
+ghost use Rattle.std.specs.Prelude.{◌≤◌, None, IsOkUnless};
+ghost use Rattle.bud_shelf.specs.Outside.{IsPutAnswer};
 
 use bud_shelf::{Sink, SinkFault};
 use std::io;
@@ -22,7 +23,12 @@ impl<R: Print> Sink for StdSink<'_, R> {
 
     ghost faults = { λ sink. sink.faults };
 
-    fn put(&mut self, bytes: &[u8]) -> Result<(), SinkFault> {
+    fn put(&mut self, bytes: &[u8]) -> Result<(), SinkFault>
+        ensures count { self.old.faults ≤ self.new.faults }
+        ensures answer { IsPutAnswer None None self.old.faults self.new.faults bytes.now result }
+        // A refusal is always told as a failed call.
+        ensures failed { IsOkUnless result SinkFault.Failed }
+    {
         match print(self.rt, bytes) {
             Ok(()) => Ok(()),
             Err(_) => {

@@ -8,8 +8,7 @@ use Rattle.cert_text.specs.Certs.{plan_in}
 use Rattle.cert_text.specs.Texts.{Reads}
 use Rattle.cert_text.specs.declared.certs.Cert.{Cert}
 use Rattle.plan_cert.specs.Raw.{IsRawCert}
-use Rattle.budget_top.specs.Certificates.{Certifies}
-use Rattle.budget_top.specs.Raw.{IsCertText}
+use Rattle.budget_top.specs.Problems.{Certifies, IsCertText}
 
 pub certifies : (p : Problem) (cert : Cert) → IsSound p → IsRawCert p cert → Certifies p cert
 certifies p cert sound good = record {

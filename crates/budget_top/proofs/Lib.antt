@@ -1,7 +1,10 @@
-pub mod JoinsWithin
-pub mod InputStatus
-pub mod ProblemStatus
-pub mod Later
-pub mod VerdictStatus
-pub mod OneStatus
+pub mod Courses
+pub mod FileLaws
+pub mod WritingLaws
+pub mod Soundnesses
+pub mod Measures
+pub mod Verdicts
 pub mod CertifiedPlans
+pub mod JobLaws
+pub mod JobCourses
+pub mod RunLaws

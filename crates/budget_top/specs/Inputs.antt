@@ -1,72 +1,73 @@
--- What an input file comes to: its value, or the reply that names its refusal.
-use Rattle.std.specs.Prelude.{◌≡◌, ◌≤◌, ◌<◌, ◌⊎◌, ℕ, List, length, string_bytes, Option, Result, Ok, Err}
-use Rattle.std.specs.declared.vec.Vec.{Vec}
-use Rattle.std.specs.declared.alloc.Global.{Global}
+-- Input files: their bytes, and the values that these read as.
+use Rattle.std.specs.Prelude.{◌≡◌, ◌≤◌, ◌<◌, ◌⊎◌, ℕ, List, length, Option, Result, Ok, Err}
 use Rattle.bud_base.specs.declared.problems.Problem.{Problem}
 use Rattle.bud_base.specs.declared.texts.TextFault.{TextFault}
-use Rattle.bud_base.specs.declared.texts.TextFault.TheVariants.{Syntax, Value as OutOfRange, NoMemory}
-use Rattle.bud_base.specs.Soundness.{IsListable}
-use Rattle.bud_plans.specs.Plans.{HasPlanNumbers}
-use Rattle.cert_text.specs.Certs.{plan_in}
+use Rattle.bud_shelf.specs.Outside.{longest_file, Files, IsFile, HasLength, IsMissing, Rose}
+use Rattle.budget_report.specs.declared.causes.Cause.{Cause}
+use Rattle.budget_report.specs.declared.causes.Cause.TheVariants.{Words, Shelf, Sink, Length, Text, Problem as Unsound, Cert as Uncertified}
+use Rattle.budget_report.specs.Causes.{Subject, bare}
+use Rattle.cert_text.specs.Texts.{IsReadAnswer as IsCertAnswer}
 use Rattle.cert_text.specs.declared.certs.Cert.{Cert}
-use Rattle.bud_shelf.specs.Outside.{Files, IsFile, HasLength, IsMissing, Rose}
-use Rattle.bud_shelf.specs.declared.shelves.TheConstants.{LONGEST_FILE}
-use Rattle.budget_top.specs.declared.status.Status.{Status}
-use Rattle.budget_top.specs.declared.status.Status.TheVariants.{Fault, Refused, Limit}
-use Rattle.budget_top.specs.declared.inputs.Loaded.{Loaded}
-use Rattle.budget_top.specs.declared.inputs.Loaded.TheVariants.{Value, Refused as NoValue}
-use Rattle.budget_top.specs.Faults.{fault_line, length_line, refused_line}
+use Rattle.problem_text.specs.Problems.{IsReadAnswer as IsProblemAnswer}
+use Rattle.bud_shelf.specs.declared.shelves.ShelfFault.{ShelfFault}
+use Rattle.bud_shelf.specs.declared.shelves.ShelfFault.TheVariants.{Missing, Failed, TooLong, NoMemory}
+use Rattle.budget_top.specs.declared.outcomes.Stop.{Stop}
+use Rattle.budget_top.specs.declared.outcomes.Stop.TheVariants.{NoMemory as Wanting}
+use Rattle.budget_top.specs.Steps.{Course, ◌>>=◌, step, IsRefused}
 
--- how a reader answers to bytes
-abbrev pub Reader : Type 0 → Type 1
-Reader V = List ℕ → Result V TextFault → Type 0
+-- what a shelf or a sink tells, before and after, and its counts of faults
+pub record Seen (A : Type 0) : Type 0 where
+  pub old : A
+  pub new : A
+  pub before : ℕ
+  pub now : ℕ
+
+abbrev pub seen : {X A : Type 0} → (X → A) → (X → ℕ) → X → X → Seen A
+seen told faults old new = record { old = told old; new = told new; before = faults old; now = faults new }
 
 -- the file of this name holds exactly these bytes, and no more than a shelf reads
 abbrev pub IsWhole : Option Files → List ℕ → List ℕ → Type 0
-IsWhole files name bytes = IsFile files name bytes × (length bytes ≤ LONGEST_FILE)
+IsWhole files name bytes = IsFile files name bytes × (length bytes ≤ longest_file)
 
--- a file that can't be read: it is missing or the count of faults rose, or it is too long
-abbrev pub IsUnread : Option Files → ℕ → ℕ → List ℕ → Status → List ℕ → Type 0
-IsUnread files before now name Fault text = (IsMissing files name before now ⊎ Rose before now) × (text ≡ fault_line name)
-IsUnread files before now name Limit text = (n : ℕ) × ((LONGEST_FILE < n) × HasLength files name n × (text ≡ length_line name n))
-IsUnread files before now name _ text = ⊥
+-- the file of this name is missing, or the count of faults rose
+abbrev pub IsOut : Seen (Option Files) → List ℕ → Type 0
+IsOut shelf name = IsMissing shelf.old name shelf.before shelf.now ⊎ Rose shelf.before shelf.now
 
--- want of memory is no refusal
-abbrev pub IsRefusal : TextFault → Type 0
-IsRefusal (Syntax at) = Unit {0}
-IsRefusal (OutOfRange at) = Unit {0}
-IsRefusal NoMemory = ⊥
+-- the file of this name has so many bytes, more than a shelf reads
+abbrev pub IsLong : Option Files → List ℕ → ℕ → Type 0
+IsLong files name count = (longest_file < count) × HasLength files name count
 
--- bytes that have no reading
-abbrev pub IsUnreadable : {V : Type 0} → Reader V → List ℕ → List ℕ → Status → List ℕ → Type 0
-IsUnreadable reads name bytes Refused text = (fault : TextFault) × (IsRefusal fault × reads bytes (Err fault) × (text ≡ refused_line name fault))
-IsUnreadable reads name bytes _ text = ⊥
+-- the cause that a file isn't read
+abbrev pub IsUnread : Seen (Option Files) → List ℕ → Cause → Type 0
+IsUnread shelf name (Shelf other) = (other ≡ name) × IsOut shelf name
+IsUnread shelf name (Length other count) = (other ≡ name) × IsLong shelf.old name count
+IsUnread shelf name other = ⊥
 
--- the file can't be read, or its bytes have no reading
-abbrev pub IsRefusedInput : {V : Type 0} → Reader V → Option Files → ℕ → ℕ → List ℕ → Status → List ℕ → Type 0
-IsRefusedInput reads files before now name status text =
-    IsUnread files before now name status text ⊎ ((bytes : List ℕ) × (IsWhole files name bytes × IsUnreadable reads name bytes status text))
+-- the bytes of a file
+abbrev pub file : Seen (Option Files) → List ℕ → Course (List ℕ)
+file shelf name (Ok bytes) = IsWhole shelf.old name bytes
+file shelf name (Err r) = (r.subject ≡ bare) × IsUnread shelf name r.cause
 
--- the file's bytes read as the value
-abbrev pub Holds : {V : Type 0} → Reader V → Option Files → List ℕ → V → Type 0
-Holds reads files name value = (bytes : List ℕ) × (IsWhole files name bytes × reads bytes (Ok value))
+-- the end of a job that can't read or write the file, for this refusal of the shelf
+abbrev pub IsStopped : List ℕ → ShelfFault → Stop → Type 0
+IsStopped name Missing stop = IsRefused (record { subject = bare; cause = Shelf name }) stop
+IsStopped name Failed stop = IsRefused (record { subject = bare; cause = Shelf name }) stop
+IsStopped name (TooLong count) stop = IsRefused (record { subject = bare; cause = Length name count }) stop
+IsStopped name NoMemory stop = stop ≡ Wanting
 
-abbrev pub IsLoaded : {V : Type 0} → Reader V → Option Files → ℕ → ℕ → List ℕ → Loaded V → Type 0
-IsLoaded reads files before now name (Value value) = Holds reads files name value
-IsLoaded reads files before now name (NoValue reply) = IsRefusedInput reads files before now name reply.status reply.text
+-- a kind of file: what a reader answers to its bytes, and the cause of a refusal, with the file's name
+pub record Grammar (V F : Type 0) : Type 1 where
+  pub answers : List ℕ → Result V F → Type 0
+  pub cause : List ℕ → F → Cause
 
-abbrev pub IsFileAnswer : Option Files → ℕ → ℕ → List ℕ → Loaded (Vec ℕ Global) → Type 0
-IsFileAnswer files before now name (Value bytes) = IsWhole files name bytes.items
-IsFileAnswer files before now name (NoValue reply) = IsUnread files before now name reply.status reply.text
+-- the value that a file reads as
+abbrev pub input : {V F : Type 0} → Seen (Option Files) → Grammar V F → List ℕ → Course V
+input shelf grammar name = do
+  bytes ← file shelf name
+  step (grammar.answers bytes) bare (grammar.cause name)
 
-abbrev pub IsParsed : {V : Type 0} → Reader V → List ℕ → List ℕ → Loaded V → Type 0
-IsParsed reads name bytes (Value value) = reads bytes (Ok value)
-IsParsed reads name bytes (NoValue reply) = IsUnreadable reads name bytes reply.status reply.text
+abbrev pub problems : Grammar Problem TextFault
+problems = record { answers = IsProblemAnswer; cause = λ name fault. Text name fault }
 
-abbrev pub IsListableIfLoaded : Loaded Problem → Type 0
-IsListableIfLoaded (Value p) = IsListable p
-IsListableIfLoaded (NoValue reply) = Unit {0}
-
-abbrev pub HasNumbersIfLoaded : Loaded Cert → Type 0
-HasNumbersIfLoaded (Value cert) = HasPlanNumbers (plan_in cert)
-HasNumbersIfLoaded (NoValue reply) = Unit {0}
+abbrev pub certificates : Grammar Cert TextFault
+certificates = record { answers = IsCertAnswer; cause = λ name fault. Text name fault }

@@ -1,10 +1,8 @@
-pub mod Codes
-pub mod Lines
-pub mod Replies
-pub mod Faults
-pub mod Certificates
-pub mod Words
+pub mod Outcomes
+pub mod Steps
 pub mod Inputs
-pub mod Raw
-pub mod Prove
+pub mod Problems
+pub mod Words
+pub mod Jobs
+pub mod Writing
 pub mod Runs

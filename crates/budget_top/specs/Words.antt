@@ -9,19 +9,23 @@ pub data Asked : Type 0 where
   raw : (problem : List ℕ) → Asked
   prove : (problem cert : List ℕ) → Asked
 
-abbrev pub raw_of : List ℕ → List ℕ → Option Asked
-raw_of word problem = if bytes_eq word (codes "raw") then Some (raw problem) else None
+abbrev pub raw_of : List (List ℕ) → Option Asked
+raw_of (problem ∷ []) = Some (raw problem)
+raw_of [] = None
+raw_of (problem ∷ other ∷ others) = None
 
-abbrev pub prove_of : List ℕ → List ℕ → List ℕ → Option Asked
-prove_of word problem cert = if bytes_eq word (codes "prove") then Some (prove problem cert) else None
+abbrev pub prove_of : List (List ℕ) → Option Asked
+prove_of (problem ∷ cert ∷ []) = Some (prove problem cert)
+prove_of [] = None
+prove_of (problem ∷ []) = None
+prove_of (problem ∷ cert ∷ other ∷ others) = None
 
--- the job that the words behind the program's name ask for, where they fit one
+-- the first word picks the job, and the job says what the others are
 abbrev pub job_of : List (List ℕ) → Option Asked
 job_of [] = None
-job_of (word ∷ []) = None
-job_of (word ∷ problem ∷ []) = raw_of word problem
-job_of (word ∷ problem ∷ cert ∷ []) = prove_of word problem cert
-job_of (word ∷ problem ∷ cert ∷ other ∷ others) = None
+job_of (word ∷ names) =
+    if bytes_eq word (codes "raw") then raw_of names
+    else (if bytes_eq word (codes "prove") then prove_of names else None)
 
 abbrev pub asked : Job → Asked
 asked (Raw problem) = raw problem.now

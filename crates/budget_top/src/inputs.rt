@@ -1,112 +1,143 @@
-ghost use Rattle.std.specs.Prelude.{◌≡◌, ◌≤◌, IfOk, length, string_bytes};
-ghost use Rattle.budget_top.specs.Inputs.{IsFileAnswer, IsLoaded, IsParsed, IsListableIfLoaded, HasNumbersIfLoaded};
-ghost use Rattle.cert_text.specs.Texts.{IsReadAnswer as IsCertAnswer};
-ghost use Rattle.problem_text.specs.Problems.{IsReadAnswer as IsProblemAnswer};
+ghost use Rattle.std.specs.Prelude.{◌≡◌, ◌≤◌, ℕ, List, IfOk, length};
+ghost use Rattle.bud_base.specs.Soundness.{IsListable};
+ghost use Rattle.bud_plans.specs.Plans.{HasPlanNumbers};
+ghost use Rattle.bud_shelf.specs.Outside.{longest_file};
+ghost use Rattle.cert_text.specs.Certs.{plan_in};
+ghost use Rattle.budget_report.specs.Causes.{bare, Concerns};
+ghost use Rattle.budget_top.specs.Steps.{Follows, step};
+ghost use Rattle.budget_top.specs.Inputs.{Grammar, IsStopped, seen, file, input, problems, certificates};
 
-use crate::faults;
-use crate::status::{Reply, Status};
-use bud_base::{Problem, TextFault};
-use bud_shelf::{LONGEST_FILE, Shelf, ShelfFault};
+use crate::outcomes::{Stop, refused};
+use bud_base::{Problem, Text, TextFault};
+use bud_shelf::{Shelf, ShelfFault};
+use budget_report::{Cause, Scene};
 use cert_text::{Cert, read_cert};
 use problem_text::read_problem;
 use std::alloc::{AllocError, Global};
 
-/// What an input file comes to.
-#[derive(Drop)]
-pub enum Loaded<V> {
-    /// Its value.
-    Value(V),
-    /// The reply that names its refusal.
-    Refused(Reply),
+/// A kind of input file.
+pub trait Input {
+    type Value: Drop;
+
+    type Fault: Drop;
+
+    /// What the reader answers to the bytes of a file, and the cause of a refusal.
+    ghost grammar: { Grammar Self.Value Self.Fault };
+
+    /// What is known of each value that is read.
+    ghost is_value: { Self.Value → Type 0 };
+
+    fn read(alloc: Global, text: &[u8]) -> Result<Self::Value, Self::Fault>
+        requires { length text.now ≤ longest_file }
+        ensures answer { grammar.answers text.now result }
+        ensures value { IfOk result is_value };
+
+    fn cause(name: Text, fault: Self::Fault) -> Cause
+        ensures cause { result ≡ grammar.cause name fault }
+        ensures concerns { Concerns bare result };
 }
 
-/// Reads a problem text from the shelf.
-pub fn load_problem<S: Shelf>(
-    alloc: Global,
-    shelf: &mut S,
-    name: &str,
-) -> Result<Loaded<Problem>, AllocError>
-    ensures loaded { IfOk result (IsLoaded IsProblemAnswer (S.files shelf.old) (S.faults shelf.old) (S.faults shelf.new) name.now) }
-    ensures listable { IfOk result IsListableIfLoaded }
-    ensures files { S.files shelf.new ≡ S.files shelf.old }
-    ensures later { S.faults shelf.old ≤ S.faults shelf.new }
-{
-    match read_file(alloc, shelf, name)? {
-        Loaded::Value(text) => problem_of(alloc, name, text.as_slice()),
-        Loaded::Refused(reply) => Ok(Loaded::Refused(reply)),
+/// The text of a raw problem.
+pub struct ProblemText;
+
+impl Input for ProblemText {
+    type Value = Problem;
+
+    type Fault = TextFault;
+
+    ghost grammar = { problems };
+
+    ghost is_value = { IsListable };
+
+    fn read(alloc: Global, text: &[u8]) -> Result<Problem, TextFault> {
+        read_problem(alloc, text)
+    }
+
+    fn cause(name: Text, fault: TextFault) -> Cause {
+        Cause::Text(name, fault)
     }
 }
 
-/// Reads a certificate from the shelf.
-pub fn load_cert<S: Shelf>(
-    alloc: Global,
-    shelf: &mut S,
-    name: &str,
-) -> Result<Loaded<Cert>, AllocError>
-    ensures loaded { IfOk result (IsLoaded IsCertAnswer (S.files shelf.old) (S.faults shelf.old) (S.faults shelf.new) name.now) }
-    ensures numbers { IfOk result HasNumbersIfLoaded }
+/// The text of a certificate.
+pub struct CertText;
+
+impl Input for CertText {
+    type Value = Cert;
+
+    type Fault = TextFault;
+
+    ghost grammar = { certificates };
+
+    ghost is_value = { λ cert. HasPlanNumbers (plan_in cert) };
+
+    fn read(alloc: Global, text: &[u8]) -> Result<Cert, TextFault> {
+        read_cert(alloc, text)
+    }
+
+    fn cause(name: Text, fault: TextFault) -> Cause {
+        Cause::Text(name, fault)
+    }
+}
+
+/// The value that a file of the shelf reads as.
+pub fn load<R: Input, S: Shelf>(alloc: Global, shelf: &mut S, name: &str) -> Result<R::Value, Stop>
+    ensures input { Follows (input (seen S.files S.faults shelf.old shelf.new) R.grammar name.now) result }
+    ensures value { IfOk result R.is_value }
     ensures files { S.files shelf.new ≡ S.files shelf.old }
     ensures later { S.faults shelf.old ≤ S.faults shelf.new }
 {
-    match read_file(alloc, shelf, name)? {
-        Loaded::Value(text) => cert_of(alloc, name, text.as_slice()),
-        Loaded::Refused(reply) => Ok(Loaded::Refused(reply)),
+    let text = read_file(alloc, shelf, name)?;
+    read_text::<R>(alloc, name, text.as_slice())
+}
+
+/// The value that bytes read as; the name is that of their file.
+fn read_text<R: Input>(alloc: Global, name: &str, text: &[u8]) -> Result<R::Value, Stop>
+    requires { length text.now ≤ longest_file }
+    ensures reading { Follows (step (R.grammar.answers text.now) bare (R.grammar.cause name.now)) result }
+    ensures value { IfOk result R.is_value }
+{
+    match R::read(alloc, text) {
+        Ok(value) => Ok(value),
+        Err(fault) => {
+            let name = name_text(alloc, name)?;
+            let cause = R::cause(name, fault);
+            Err(refused(alloc, &cause, Scene::Bare))
+        }
     }
 }
 
 /// The bytes of a file.
-fn read_file<S: Shelf>(
-    alloc: Global,
-    shelf: &mut S,
-    name: &str,
-) -> Result<Loaded<Vec<u8>>, AllocError>
-    ensures file { IfOk result (IsFileAnswer (S.files shelf.old) (S.faults shelf.old) (S.faults shelf.new) name.now) }
+fn read_file<S: Shelf>(alloc: Global, shelf: &mut S, name: &str) -> Result<Text, Stop>
+    ensures file { Follows (file (seen S.files S.faults shelf.old shelf.new) name.now) result }
     ensures files { S.files shelf.new ≡ S.files shelf.old }
     ensures later { S.faults shelf.old ≤ S.faults shelf.new }
 {
-    let mut text = Vec::new(alloc);
-    match shelf.read(name, &mut text) {
-        Ok(()) => Ok(Loaded::Value(text)),
-        Err(ShelfFault::TooLong(bytes)) => {
-            let text = faults::length(alloc, name, bytes)?;
-            Ok(Loaded::Refused(Reply::new(Status::Limit, text)))
-        }
-        Err(ShelfFault::NoMemory) => Err(AllocError),
-        Err(ShelfFault::Missing | ShelfFault::Failed) => {
-            let text = faults::fault(alloc, name)?;
-            Ok(Loaded::Refused(Reply::new(Status::Fault, text)))
-        }
+    let mut bytes = Vec::new(alloc);
+    match shelf.read(name, &mut bytes) {
+        Ok(()) => Ok(Text::from_vec(bytes)),
+        Err(fault) => Err(stopped(alloc, name, fault)),
     }
 }
 
-/// The problem that the bytes read as, or the reply that names their refusal.
-fn problem_of(alloc: Global, name: &str, text: &[u8]) -> Result<Loaded<Problem>, AllocError>
-    requires { length text.now ≤ LONGEST_FILE }
-    ensures parsed { IfOk result (IsParsed IsProblemAnswer name.now text.now) }
-    ensures listable { IfOk result IsListableIfLoaded }
+/// The end of a job that can't read or write this file.
+pub fn stopped(alloc: Global, name: &str, fault: ShelfFault) -> Stop
+    ensures { IsStopped name.now fault result }
 {
-    match read_problem(alloc, text) {
-        Ok(problem) => Ok(Loaded::Value(problem)),
-        Err(TextFault::NoMemory) => Err(AllocError),
-        Err(fault) => {
-            let text = faults::refused(alloc, name, fault)?;
-            Ok(Loaded::Refused(Reply::new(Status::Refused, text)))
-        }
-    }
+    let Ok(name) = name_text(alloc, name) else {
+        return Stop::NoMemory;
+    };
+    let cause = match fault {
+        ShelfFault::TooLong(count) => Cause::Length(name, count),
+        ShelfFault::Missing | ShelfFault::Failed => Cause::Shelf(name),
+        ShelfFault::NoMemory => return Stop::NoMemory,
+    };
+    refused(alloc, &cause, Scene::Bare)
 }
 
-/// The certificate that the bytes read as, or the reply that names their refusal.
-fn cert_of(alloc: Global, name: &str, text: &[u8]) -> Result<Loaded<Cert>, AllocError>
-    requires { length text.now ≤ LONGEST_FILE }
-    ensures parsed { IfOk result (IsParsed IsCertAnswer name.now text.now) }
-    ensures numbers { IfOk result HasNumbersIfLoaded }
+/// A file's name as a text.
+fn name_text(alloc: Global, name: &str) -> Result<Text, AllocError>
+    ensures { IfOk result (λ text. text ≡ name.now) }
 {
-    match read_cert(alloc, text) {
-        Ok(cert) => Ok(Loaded::Value(cert)),
-        Err(TextFault::NoMemory) => Err(AllocError),
-        Err(fault) => {
-            let text = faults::refused(alloc, name, fault)?;
-            Ok(Loaded::Refused(Reply::new(Status::Refused, text)))
-        }
-    }
+    let bytes = Vec::from_slice(alloc, name.as_bytes())?;
+    Ok(Text::from_vec(bytes))
 }

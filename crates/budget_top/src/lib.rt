@@ -1,19 +1,15 @@
 //! The jobs of the program, from the bytes that a shelf lends to the bytes that a sink takes.
 #![tactic(auto)]
 
-mod certificates;
-mod faults;
+mod finish;
 mod inputs;
-mod lines;
+mod jobs;
+mod outcomes;
 mod plans;
-mod prove;
-mod raw;
-mod replies;
+mod problems;
 mod run;
-mod status;
+#[cfg(test)]
+mod tests;
 mod words;
 
 pub use run::run_budget;
-
-#[cfg(test)]
-mod tests;

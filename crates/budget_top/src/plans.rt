@@ -2,7 +2,7 @@ ghost use Rattle.std.specs.Prelude.{◌≡◌, ◌<◌, IfOk};
 ghost use Rattle.bud_base.specs.Paths.{Meets};
 ghost use Rattle.bud_base.specs.Soundness.{IsSound};
 ghost use Rattle.bud_plans.specs.Plans.{IsPlanOf, IsHolding, HasPlanNumbers};
-ghost use Rattle.budget_top.specs.Raw.{IsCertText};
+ghost use Rattle.budget_top.specs.Problems.{IsCertText};
 
 use bud_base::{Problem, Steps, Text};
 use bud_plans::Plan;

@@ -1,4 +1,7 @@
+use crate::finish::finish;
+use crate::outcomes::{Answer, Write};
 use crate::run_budget;
+use bud_base::{Listed, Text};
 use bud_shelf::{LONGEST_FILE, MemShelf, MemSink, SafeShelf, SafeSink};
 use std::alloc::{AllocError, Global};
 use std::test::Fail;
@@ -225,5 +228,51 @@ fn prove_judges_the_worked_certificates(rt: HostRuntime) -> Result<(), Fail> {
     }
     let (answer, _) = prove(rt.alloc(), chain, "certif")?;
     assert_eq!(rt; answer, 4);
+    Ok(())
+}
+
+#[test]
+fn prove_reads_the_problem_and_then_the_certificate(rt: HostRuntime) -> Result<(), Fail> {
+    for (call, text) in [(1, "fault p\n"), (2, "fault c\n")] {
+        let mut shelf = MemShelf::new(rt.alloc());
+        shelf.add("p", b"problem 1\nnodes 0\n")?;
+        shelf.add("c", b"certificate 1\nweight 0\n")?;
+        shelf.fail_at(call)?;
+        let mut sink = MemSink::new(rt.alloc());
+        let words = owned(rt.alloc(), &["prove", "p", "c"])?;
+        let answer = run_budget(rt.alloc(), words.as_slice(), &mut shelf, &mut sink);
+        assert_eq!(rt; answer, 3);
+        assert_eq!(rt; str::from_utf8(sink.bytes())?, text);
+    }
+    Ok(())
+}
+
+/// An answer that says `done` and writes the files `a` and `b`.
+fn written(alloc: Global) -> Result<Answer, Fail> {
+    let mut answer = Answer::done(alloc, Text::from_vec(Vec::from_slice(alloc, b"done\n")?));
+    let mut writes = Listed::new(alloc);
+    for name in ["a", "b"] {
+        writes.push(Write {
+            name: String::from_str(alloc, name)?,
+            bytes: Text::from_vec(Vec::from_slice(alloc, name.as_bytes())?),
+        })?;
+    }
+    answer.writes = writes;
+    Ok(answer)
+}
+
+#[test]
+fn files_are_written_in_order_and_before_the_text(rt: HostRuntime) -> Result<(), Fail> {
+    for (call, status, text, second) in [(2, 3, "fault b\n", false), (3, 0, "done\n", true)] {
+        let mut shelf = MemShelf::new(rt.alloc());
+        shelf.fail_at(call)?;
+        let mut sink = MemSink::new(rt.alloc());
+        let answer = written(rt.alloc())?;
+        let number = finish(rt.alloc(), &mut shelf, &mut sink, Ok(answer));
+        assert_eq!(rt; number, status);
+        assert_eq!(rt; str::from_utf8(sink.bytes())?, text);
+        assert!(rt; shelf.file("a").is_some());
+        assert_eq!(rt; shelf.file("b").is_some(), second);
+    }
     Ok(())
 }

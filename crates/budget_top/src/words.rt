@@ -14,29 +14,32 @@ pub enum Job<'a> {
 pub fn asked_job(words: &[String]) -> Option<Job<'_>>
     ensures { MatchOption result (job_of (map string_bytes words.now) ≡ None) (λ job. job_of (map string_bytes words.now) ≡ Some (asked job)) }
 {
-    match words {
-        [word, problem] => raw(word.as_str(), problem.as_str()),
-        [word, problem, cert] => prove(word.as_str(), problem.as_str(), cert.as_str()),
+    let [word, names @ ..] = words else {
+        return None;
+    };
+    if word.as_bytes() == b"raw".as_slice() {
+        raw(names)
+    } else if word.as_bytes() == b"prove".as_slice() {
+        prove(names)
+    } else {
+        None
+    }
+}
+
+fn raw(names: &[String]) -> Option<Job<'_>>
+    ensures { MatchOption result (raw_of (map string_bytes names.now) ≡ None) (λ job. raw_of (map string_bytes names.now) ≡ Some (asked job)) }
+{
+    match names {
+        [problem] => Some(Job::Raw(problem.as_str())),
         _ => None,
     }
 }
 
-fn raw<'a>(word: &str, problem: &'a str) -> Option<Job<'a>>
-    ensures { MatchOption result (raw_of word.now problem.now ≡ None) (λ job. raw_of word.now problem.now ≡ Some (asked job)) }
+fn prove(names: &[String]) -> Option<Job<'_>>
+    ensures { MatchOption result (prove_of (map string_bytes names.now) ≡ None) (λ job. prove_of (map string_bytes names.now) ≡ Some (asked job)) }
 {
-    if word.as_bytes() == b"raw".as_slice() {
-        Some(Job::Raw(problem))
-    } else {
-        None
-    }
-}
-
-fn prove<'a>(word: &str, problem: &'a str, cert: &'a str) -> Option<Job<'a>>
-    ensures { MatchOption result (prove_of word.now problem.now cert.now ≡ None) (λ job. prove_of word.now problem.now cert.now ≡ Some (asked job)) }
-{
-    if word.as_bytes() == b"prove".as_slice() {
-        Some(Job::Prove(problem, cert))
-    } else {
-        None
+    match names {
+        [problem, cert] => Some(Job::Prove(problem.as_str(), cert.as_str())),
+        _ => None,
     }
 }

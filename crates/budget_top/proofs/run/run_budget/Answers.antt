@@ -1,11 +1,27 @@
-use Rattle.budget_top.proofs.OneStatus.{run_called, run_budgets, run_misfit}
+use Rattle.std.proofs.Common.{map, string_bytes}
+use Rattle.budget_top.specs.Inputs.{seen}
+use Rattle.budget_top.specs.Words.{job_of}
+use Rattle.budget_top.proofs.RunLaws.{run_called, run_budgets, run_causes, run_files}
 use Rattle.budget_top.proofs.run.run_budget.Goals as goal
 
+pub returns-clause-files : goal.returns-clause-files
+returns-clause-files g c =
+    run_files (job_of (map string_bytes c.args.words.now)) (seen g.S.Shelf.files g.S.Shelf.faults c.args.shelf.now c.run.new.shelf)
+    (seen g.K.Sink.taken g.K.Sink.faults c.args.out.now c.run.new.out) c.run.result c.run.ensures.run
+
+pub returns-clause-causes : goal.returns-clause-causes
+returns-clause-causes g c =
+    run_causes (job_of (map string_bytes c.args.words.now)) (seen g.S.Shelf.files g.S.Shelf.faults c.args.shelf.now c.run.new.shelf)
+    (seen g.K.Sink.taken g.K.Sink.faults c.args.out.now c.run.new.out) c.run.result c.run.ensures.run
+
 pub returns-clause-exact : goal.returns-clause-exact
-returns-clause-exact g c = run_called _ _ _ _ _ _ _ _ _ c.answer.ensures.run
+returns-clause-exact g c =
+    run_called (job_of (map string_bytes c.args.words.now)) (g.S.Shelf.files c.args.shelf.now) (g.S.Shelf.files c.run.new.shelf)
+    (g.S.Shelf.faults c.args.shelf.now) (g.S.Shelf.faults c.run.new.shelf)
+    (seen g.K.Sink.taken g.K.Sink.faults c.args.out.now c.run.new.out) c.run.result c.run.ensures.run
 
 pub returns-clause-budgets : goal.returns-clause-budgets
-returns-clause-budgets g c = run_budgets _ _ _ _ _ _ _ _ _ c.answer.ensures.run
-
-pub returns-clause-misfit : goal.returns-clause-misfit
-returns-clause-misfit g c = run_misfit _ _ _ _ _ _ _ _ _ c.answer.ensures.run
+returns-clause-budgets g c =
+    run_budgets (job_of (map string_bytes c.args.words.now)) (g.S.Shelf.files c.args.shelf.now) (g.S.Shelf.files c.run.new.shelf)
+    (g.S.Shelf.faults c.args.shelf.now) (g.S.Shelf.faults c.run.new.shelf)
+    (seen g.K.Sink.taken g.K.Sink.faults c.args.out.now c.run.new.out) c.run.result c.run.ensures.run

@@ -1,0 +1,130 @@
+-- Why a job is refused: the status of each cause, and its line.
+use Rattle.std.specs.Prelude.{ℕ, ◌<◌, List, [], ◌∷◌, ◌++◌, codes, decimal, length, All}
+use Rattle.bud_base.specs.Paths.{item_at}
+use Rattle.bud_base.specs.declared.ids.ItemId.{ItemId}
+use Rattle.bud_base.specs.declared.problems.Item.{Item}
+use Rattle.bud_base.specs.declared.problems.Problem.{Problem}
+use Rattle.bud_base.specs.declared.checks.ProblemFault.{ProblemFault}
+use Rattle.bud_base.specs.declared.checks.ProblemFault.TheVariants.{BadNode, BadBounds, BadTime, TooLarge, Cycle, Dead, NoMemory as ProblemMemory}
+use Rattle.bud_base.specs.declared.texts.TextFault.{TextFault}
+use Rattle.bud_base.specs.declared.texts.TextFault.TheVariants.{Syntax, Value, NoMemory as TextMemory}
+use Rattle.budget_report.specs.declared.statuses.Status.{Status}
+use Rattle.budget_report.specs.declared.statuses.Status.TheVariants.{Done, Violated, Words as Misfit, Fault, Refused, Design, Limit, Certificate, Memory}
+use Rattle.budget_report.specs.declared.causes.Cause.{Cause}
+use Rattle.budget_report.specs.declared.causes.Cause.TheVariants.{Words, Shelf, Sink, Length, Text as Lines, Problem as Unsound, Cert}
+use Rattle.budget_report.specs.declared.causes.Scene.{Scene}
+use Rattle.budget_report.specs.declared.causes.Scene.TheVariants.{Bare, Raw}
+use Rattle.budget_report.specs.Lines.{line, nodes_of}
+use Rattle.budget_report.specs.Certificates.{IsNamed, cert_fields}
+
+-- what a cause speaks of, beside a file
+pub data Subject : Type 0 where
+  bare : Subject
+  raw : (problem : Problem) → Subject
+
+abbrev pub subject_of : Scene → Subject
+subject_of Bare = bare
+subject_of (Raw problem) = raw problem.now
+
+-- the problem that is spoken of, or else one without nodes
+abbrev pub problem_of : Subject → Problem
+problem_of bare = record { nodes = 0; items = []; starts = []; ends = [] }
+problem_of (raw problem) = problem
+
+abbrev pub text_status : TextFault → Status
+text_status (Syntax at) = Refused
+text_status (Value at) = Refused
+text_status TextMemory = Memory
+
+abbrev pub problem_status : ProblemFault → Status
+problem_status (BadNode n) = Design
+problem_status (BadBounds i) = Design
+problem_status (BadTime n) = Design
+problem_status (TooLarge count) = Limit
+problem_status (Cycle items) = Design
+problem_status (Dead n) = Design
+problem_status ProblemMemory = Memory
+
+-- how a run ends that is refused for the cause
+abbrev pub status_of : Cause → Status
+status_of Words = Misfit
+status_of (Shelf name) = Fault
+status_of Sink = Fault
+status_of (Length name count) = Limit
+status_of (Lines name fault) = text_status fault
+status_of (Unsound fault) = problem_status fault
+status_of (Cert fault) = Certificate
+
+-- a file has no reading: its name, the offset, the kind
+abbrev pub refused_fields : List ℕ → ℕ → List ℕ → List (List ℕ)
+refused_fields name at kind = codes "refused" ∷ name ∷ decimal at ∷ kind ∷ []
+
+abbrev pub memory_fields : List (List ℕ)
+memory_fields = codes "memory" ∷ []
+
+abbrev pub text_fields : List ℕ → TextFault → List (List ℕ)
+text_fields name (Syntax at) = refused_fields name at (codes "syntax")
+text_fields name (Value at) = refused_fields name at (codes "value")
+text_fields name TextMemory = memory_fields
+
+-- the design, or a limit that it passes: a word and a number
+abbrev pub numbered_fields : List ℕ → List ℕ → ℕ → List (List ℕ)
+numbered_fields title word number = title ∷ word ∷ decimal number ∷ []
+
+abbrev pub problem_fields : ProblemFault → List (List ℕ)
+problem_fields (BadNode n) = numbered_fields (codes "design") (codes "bad-node") n
+problem_fields (BadBounds i) = numbered_fields (codes "design") (codes "bad-bounds") i.0
+problem_fields (BadTime n) = numbered_fields (codes "design") (codes "bad-time") n.0
+problem_fields (TooLarge count) = numbered_fields (codes "limit") (codes "size") count
+problem_fields (Cycle ring) = numbered_fields (codes "design") (codes "cycle") (length ring)
+problem_fields (Dead n) = numbered_fields (codes "design") (codes "dead") n.0
+problem_fields ProblemMemory = memory_fields
+
+abbrev pub shelf_fields : List ℕ → List (List ℕ)
+shelf_fields name = codes "fault" ∷ name ∷ []
+
+abbrev pub length_fields : List ℕ → ℕ → List (List ℕ)
+length_fields name count = codes "limit" ∷ name ∷ decimal count ∷ []
+
+-- the fields of the line that names the cause; a refusal of the sink has none
+abbrev pub fields_of : Problem → Cause → List (List ℕ)
+fields_of p Words = codes "words" ∷ []
+fields_of p (Shelf name) = shelf_fields name
+fields_of p Sink = []
+fields_of p (Length name count) = length_fields name count
+fields_of p (Lines name fault) = text_fields name fault
+fields_of p (Unsound fault) = problem_fields fault
+fields_of p (Cert fault) = cert_fields p fault
+
+-- a line for each item of a cycle, with its nodes
+abbrev pub ring_lines : List Item → List ItemId → List ℕ
+ring_lines items [] = []
+ring_lines items (i ∷ is) = line (codes "arc" ∷ nodes_of (item_at items i.0)) ++ ring_lines items is
+
+abbrev pub problem_rest : List Item → ProblemFault → List ℕ
+problem_rest items (Cycle ring) = ring_lines items ring
+problem_rest items other = []
+
+-- what stands below the line
+abbrev pub rest_of : Problem → Cause → List ℕ
+rest_of p (Unsound fault) = problem_rest p.items fault
+rest_of p other = []
+
+-- what is printed of a cause
+abbrev pub text_of : Subject → Cause → List ℕ
+text_of subject cause = line (fields_of (problem_of subject) cause) ++ rest_of (problem_of subject) cause
+
+-- the items of the cycle are the problem's
+abbrev pub HasItems : Problem → ProblemFault → Type 0
+HasItems p (Cycle ring) = All (λ i. i.0 < length p.items) ring
+HasItems p other = Unit {0}
+
+-- what the cause names is the subject's
+abbrev pub Concerns : Subject → Cause → Type 0
+Concerns subject (Unsound fault) = HasItems (problem_of subject) fault
+Concerns subject (Cert fault) = IsNamed (problem_of subject) fault
+Concerns subject other = Unit {0}
+
+-- the line of want of memory, which is no cause
+abbrev pub memory_text : List ℕ
+memory_text = line memory_fields

@@ -1,0 +1,23 @@
+ghost use Rattle.std.specs.Prelude.{◌≡◌, ◌++◌, OnOk, decimal};
+ghost use Rattle.std.specs.Fmt.{signed_decimal};
+ghost use Rattle.line_text.specs.Written.{spaced};
+
+use itoa::Buffer;
+use line_text::put_field;
+use std::alloc::AllocError;
+
+/// Adds a number as a field behind a space.
+pub fn put_number(out: &mut Vec<u8>, number: u64) -> Result<(), AllocError>
+    ensures { OnOk result (out.new.items ≡ out.old.items ++ spaced (decimal number)) }
+{
+    let mut buffer = Buffer::new();
+    put_field(out, buffer.format(number).as_bytes())
+}
+
+/// Adds a weight as a field behind a space.
+pub fn put_weight(out: &mut Vec<u8>, weight: i128) -> Result<(), AllocError>
+    ensures { OnOk result (out.new.items ≡ out.old.items ++ spaced (signed_decimal weight)) }
+{
+    let mut buffer = Buffer::new();
+    put_field(out, buffer.format(weight).as_bytes())
+}

@@ -1,0 +1,7 @@
+use Rattle.budget_top.proofs.jobs.answer.Goals as goal
+
+pub returns-in-Raw-clause-course : goal.returns-in-Raw-clause-course
+returns-in-Raw-clause-course g c = rw c.in-Raw.is c.raw.ensures.course
+
+pub returns-in-Prove-clause-course : goal.returns-in-Prove-clause-course
+returns-in-Prove-clause-course g c = rw c.in-Prove.is c.prove.ensures.course

@@ -1,0 +1,10 @@
+use Rattle.budget_report.specs.Causes.{raw}
+use Rattle.budget_report.specs.declared.causes.Cause.TheVariants.{Cert as Uncertified}
+use Rattle.budget_top.specs.Problems.{IsVerdict}
+use Rattle.budget_top.proofs.Courses.{step_refused}
+use Rattle.budget_top.proofs.problems.verdict.Goals as goal
+
+pub returns : goal.returns
+returns c =
+    let answer = rw c.in-Fault.is at c.check_raw.ensures.answer in
+    step_refused (IsVerdict c.args.problem.now c.args.cert.now) (raw c.args.problem.now) (λ fault. Uncertified fault) c.in-Fault.fault c.refused.result answer c.refused.ensures

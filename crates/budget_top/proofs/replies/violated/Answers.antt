@@ -1,5 +1,0 @@
-use Rattle.budget_top.proofs.JoinsWithin.{Joins-within}
-use Rattle.budget_top.proofs.replies.violated.Goals as goal
-
-pub put_arcs-requires : goal.put_arcs-requires
-put_arcs-requires c = rw c.as_slice-2.ensures (Joins-within _ _ _ _ c.requires.joined)

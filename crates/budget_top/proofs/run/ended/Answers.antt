@@ -1,0 +1,16 @@
+use Rattle.std.proofs.Common.{◌≡◌, Option, Err, sym, subst, refl}
+use Rattle.budget_report.specs.Causes.{bare}
+use Rattle.budget_report.specs.declared.causes.Cause.TheVariants.{Words}
+use Rattle.budget_top.specs.declared.outcomes.Answer.{Answer}
+use Rattle.budget_top.specs.Inputs.{seen}
+use Rattle.budget_top.specs.Jobs.{course, misfit}
+use Rattle.budget_top.specs.Steps.{Follows}
+use Rattle.budget_top.specs.Words.{Asked}
+use Rattle.budget_top.proofs.Courses.{follows_refused}
+use Rattle.budget_top.proofs.run.ended.Goals as goal
+
+pub returns-in-None-clause-course : goal.returns-in-None-clause-course
+returns-in-None-clause-course g c =
+    let shelf = seen g.S.Shelf.files g.S.Shelf.faults c.args.shelf.now c.args.shelf.now in
+    let P : Option Asked → Type 0 = λ job. Follows {A = Answer} (course shelf job) (Err c.refused.result) in
+    subst P (sym c.in-None.ensures) (follows_refused misfit (record { subject = bare; cause = Words }) c.refused.result (λ is. refl) c.refused.ensures)

@@ -1,0 +1,48 @@
+//! The jobs, each as its steps in order.
+ghost use Rattle.std.specs.Prelude.{◌≡◌, ◌≤◌};
+ghost use Rattle.budget_top.specs.Inputs.{seen};
+ghost use Rattle.budget_top.specs.Jobs.{raw_job, prove_job, steps_of};
+ghost use Rattle.budget_top.specs.Steps.{Follows};
+ghost use Rattle.budget_top.specs.Words.{asked};
+
+use crate::inputs::{CertText, ProblemText, load};
+use crate::outcomes::{Answer, Stop};
+use crate::problems::{measured, sound, verdict};
+use crate::words::Job;
+use bud_shelf::Shelf;
+use std::alloc::Global;
+
+/// Does a job.
+pub fn answer<S: Shelf>(alloc: Global, shelf: &mut S, job: Job<'_>) -> Result<Answer, Stop>
+    ensures course { Follows (steps_of (seen S.files S.faults shelf.old shelf.new) (asked job.entry)) result }
+    ensures files { S.files shelf.new ≡ S.files shelf.old }
+    ensures later { S.faults shelf.old ≤ S.faults shelf.new }
+{
+    match job {
+        Job::Raw(problem) => raw(alloc, shelf, problem),
+        Job::Prove(problem, cert) => prove(alloc, shelf, problem, cert),
+    }
+}
+
+/// `raw P`: the least slack of a problem and a certificate of best budgets, or a worst violated path.
+fn raw<S: Shelf>(alloc: Global, shelf: &mut S, name: &str) -> Result<Answer, Stop>
+    ensures course { Follows (raw_job (seen S.files S.faults shelf.old shelf.new) name.now) result }
+    ensures files { S.files shelf.new ≡ S.files shelf.old }
+    ensures later { S.faults shelf.old ≤ S.faults shelf.new }
+{
+    let problem = load::<ProblemText, S>(alloc, shelf, name)?;
+    sound(alloc, &problem)?;
+    measured(alloc, &problem)
+}
+
+/// `prove P CERT`: checks a certificate of a raw problem, whoever wrote it.
+fn prove<S: Shelf>(alloc: Global, shelf: &mut S, problem: &str, cert: &str) -> Result<Answer, Stop>
+    ensures course { Follows (prove_job (seen S.files S.faults shelf.old shelf.new) problem.now cert.now) result }
+    ensures files { S.files shelf.new ≡ S.files shelf.old }
+    ensures later { S.faults shelf.old ≤ S.faults shelf.new }
+{
+    let problem = load::<ProblemText, S>(alloc, shelf, problem)?;
+    let cert = load::<CertText, S>(alloc, shelf, cert)?;
+    sound(alloc, &problem)?;
+    verdict(alloc, &problem, &cert)
+}
