@@ -89,32 +89,32 @@ run_kept asked f0 f1 f2 b m n answer said (Ok _) same early late came keeps e =
 run_kept asked f0 f1 f2 b m n answer said (Err (Ended s)) same early late came keeps e =
     let during : IsDuring (record { old = f0; new = f1; before = b; now = m }) (record { old = f0; new = f2; before = b; now = n }) = record { files = refl; before = omega arith; now = late } in
     inr (
-      inl (
-        keeps.0,
-        (
-          record {
-            outcome = Ok answer;
-            comes = course_during asked (record { old = f0; new = f1; before = b; now = m }) (record { old = f0; new = f2; before = b; now = n }) during (Ok answer) came;
-            partly = subst (λ (f : Option Files). ArePartlyWritten f f2 answer.writes keeps.0) same keeps.1.0;
-          },
-          (rose_since b m n early keeps.1.1.0, e ∙ keeps.1.1.1),
-        )
-      )
+    inl (
+      keeps.0,
+      (
+        record {
+          outcome = Ok answer;
+          comes = course_during asked (record { old = f0; new = f1; before = b; now = m }) (record { old = f0; new = f2; before = b; now = n }) during (Ok answer) came;
+          partly = subst (λ (f : Option Files). ArePartlyWritten f f2 answer.writes keeps.0) same keeps.1.0;
+        },
+        (rose_since b m n early keeps.1.1.0, e ∙ keeps.1.1.1),
+      ),
+    )
     )
 run_kept asked f0 f1 f2 b m n answer said (Err Wanting) same early late came keeps e =
     let during : IsDuring (record { old = f0; new = f1; before = b; now = m }) (record { old = f0; new = f2; before = b; now = n }) = record { files = refl; before = omega arith; now = late } in
     inr (
+    inr (
       inr (
-        inr (
-          keeps.0,
-          record {
-            outcome = Ok answer;
-            comes = course_during asked (record { old = f0; new = f1; before = b; now = m }) (record { old = f0; new = f2; before = b; now = n }) during (Ok answer) came;
-            partly = subst (λ (f : Option Files). ArePartlyWritten f f2 answer.writes keeps.0) same keeps.1;
-          }
-        ),
-        e,
-      )
+        keeps.0,
+        record {
+          outcome = Ok answer;
+          comes = course_during asked (record { old = f0; new = f1; before = b; now = m }) (record { old = f0; new = f2; before = b; now = n }) during (Ok answer) came;
+          partly = subst (λ (f : Option Files). ArePartlyWritten f f2 answer.writes keeps.0) same keeps.1;
+        },
+      ),
+      e,
+    )
     )
 
 run_said : (asked : Option Asked) (f0 f1 f2 : Option Files) (b m n : ℕ) (ended : Result Answer Stop) (said : Said) → f1 ≡ f0 → b ≤ m → m ≤ n
@@ -151,17 +151,16 @@ said_status said = said.status
 -- what a run says where its number is none of those that the outside gives
 ends_said : (asked : Option Asked) (shelf : Seen (Option Files)) (out : Seen (Option (List ℕ))) (said : Said) (status : Status) → said.status ≡ status
     → (3 ≡ code_of status → ⊥) → (8 ≡ code_of status → ⊥) → IsAppended out.old out.new said.text → IsSaid asked shelf said → Ends asked shelf out status
-ends_said asked shelf out said status e not_fault not_memory put (inl (outcome, ended)) =
+ends_said asked shelf out said status e not_fault not_memory put (inl (outcome, ended)) = (
+  outcome,
+  (
+    ended.0,
     (
-      outcome,
-      (
-        ended.0,
-        (
-          sym (ap said_status ended.1) ∙ e,
-          subst (λ (s : Said). IsAppended out.old out.new s.text) ended.1 put,
-        ),
-      ),
-    )
+      sym (ap said_status ended.1) ∙ e,
+      subst (λ (s : Said). IsAppended out.old out.new s.text) ended.1 put,
+    ),
+  ),
+)
 ends_said asked shelf out said status e not_fault not_memory put (inr (inl (name, broke))) =
     absurd (not_fault (ap code_of (sym (ap said_status broke.1.1) ∙ e)))
 ends_said asked shelf out said status e not_fault not_memory put (inr (inr wanting)) =
@@ -314,9 +313,9 @@ course_quiet (Some asked) shelf outcome came = job_quiet asked shelf outcome cam
 none_partly : (old new : Option Files) (writes : List Write) (name : List ℕ) → writes ≡ [] → ArePartlyWritten old new writes name → ⊥
 none_partly old new writes name e partly = none_split partly.first partly.next partly.others (sym e ∙ partly.in_order)
   where
-  none_split : (first : List Write) (next : Write) (others : List Write) → [] ≡ first ++ next ∷ others → ⊥
-  none_split [] next others e = cc
-  none_split (x ∷ xs) next others e = cc
+    none_split : (first : List Write) (next : Write) (others : List Write) → [] ≡ first ++ next ∷ others → ⊥
+    none_split [] next others e = cc
+    none_split (x ∷ xs) next others e = cc
 
 none_broke : (asked : Option Asked) (shelf : Seen (Option Files)) (name : List ℕ) → Broke asked shelf name → ⊥
 none_broke asked shelf name broke =

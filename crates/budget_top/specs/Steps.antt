@@ -11,7 +11,6 @@ use Rattle.budget_top.specs.Outcomes.{Refusal, refusal_said}
 
 infixl 10 ◌>>=◌
 infixl 10 ◌>>◌
-
 -- what may come
 abbrev pub Course : Type 0 → Type 1
 Course A = Result A Refusal → Type 0

@@ -46,15 +46,15 @@ behind_in-set (suc n) k rows ends b more within same =
     let before = behind_in-set n k rows ends b more within same in
     let none : Ends = record { last = 0; second = 0 } in
     ⊎_elim
-        (λ here.
-            let row : ends_at (set rows k ends) n ≡ ends = get_or-set_at rows k n ends none here within in
-            let old : ends_at rows n ≡ ends_at rows k = ap (λ i. ends_at rows i) here in
-            behind_in-set_here _ _ _ _ more _ _ before (more_in-past n k more (omega arith))
-                (ap (λ e. min 2 (ends_behind e b)) row ∙ (same ∙ ap (λ e. min 2 (ends_behind e b + more)) (sym old)))
-                (more_in-below (suc n) k more (omega arith)))
-        (λ other.
-            behind_in-set_there _ _ _ _ _ _ before (more_in-other n k more other) (ap (λ e. ends_behind e b) (get_or-set_other rows k n ends none other)))
-        (cases_eq n k)
+    (λ here.
+    let row : ends_at (set rows k ends) n ≡ ends = get_or-set_at rows k n ends none here within in
+    let old : ends_at rows n ≡ ends_at rows k = ap (λ i. ends_at rows i) here in
+    behind_in-set_here _ _ _ _ more _ _ before (more_in-past n k more (omega arith))
+    (ap (λ e. min 2 (ends_behind e b)) row ∙ (same ∙ ap (λ e. min 2 (ends_behind e b + more)) (sym old)))
+    (more_in-below (suc n) k more (omega arith)))
+    (λ other.
+    behind_in-set_there _ _ _ _ _ _ before (more_in-other n k more other) (ap (λ e. ends_behind e b) (get_or-set_other rows k n ends none other)))
+    (cases_eq n k)
 
 times-range_one : (low n b : ℕ) → one_if (low == b) + more_in (suc b) (low + 1) (one_if (nat_lt b ((low + 1) + n))) ≡ more_in (suc b) low (one_if (nat_lt b (low + suc n)))
 times-range_one low n b = grind (arith, nat_tests)
@@ -69,9 +69,9 @@ AreOrdered-set rows k ends within ordered rest = record {
   each = λ j.
       let none : Ends = record { last = 0; second = 0 } in
       ⊎_elim
-          (λ here. let row : ends_at (set rows k ends) j ≡ ends = get_or-set_at rows k j ends none here within in let P : Ends → Type 0 = λ e. e.second ≤ e.last in subst P (sym row) ordered)
-          (λ other. let P : Ends → Type 0 = λ e. e.second ≤ e.last in subst P (sym (get_or-set_other rows k j ends none other)) (rest.each j))
-          (cases_eq j k);
+      (λ here. let row : ends_at (set rows k ends) j ≡ ends = get_or-set_at rows k j ends none here within in let P : Ends → Type 0 = λ e. e.second ≤ e.last in subst P (sym row) ordered)
+      (λ other. let P : Ends → Type 0 = λ e. e.second ≤ e.last in subst P (sym (get_or-set_other rows k j ends none other)) (rest.each j))
+      (cases_eq j k);
 }
 
 min-cover : (a b c more t : ℕ) → a ≡ min 2 (b + more) → t ≡ more → c ≡ min 2 b → a ≡ min 2 (c + t)
@@ -86,9 +86,9 @@ Adds-cover rows low end ends within less is = record {
       let same : min 2 (ends_behind ends b) ≡ min 2 (ends_behind (ends_at rows low) b + one_if (nat_lt b end)) = rw is (with_end-behind (ends_at rows low) end b (ordered.each low)) in
       let back : low + (end - low) ≡ end = omega arith in
       min-cover _ (behind_in (suc b) rows b) _ (more_in (suc b) low (one_if (nat_lt b end))) _
-          (behind_in-set (suc b) low rows ends b (one_if (nat_lt b end)) within same)
-          (times-range low (end - low) b ∙ ap (λ e. more_in (suc b) low (one_if (nat_lt b e))) back)
-          refl;
+      (behind_in-set (suc b) low rows ends b (one_if (nat_lt b end)) within same)
+      (times-range low (end - low) b ∙ ap (λ e. more_in (suc b) low (one_if (nat_lt b e))) back)
+      refl;
 }
 
 -- the two furthest ends of what begins at the first bits

@@ -12,10 +12,9 @@ returns-in-Err-clause-kept g c =
 
 pub loop-write-preserved : goal.loop-write-preserved
 loop-write-preserved g c =
-    let answer = rw c.in-Ok.is at c.write.ensures.answer in
-    (
+    let answer = rw c.in-Ok.is at c.write.ensures.answer in (
       keeps_on (g.S.Shelf.files c.args.shelf.now) (g.S.Shelf.files c.loop-write.shelf) (g.S.Shelf.files c.write.new.self)
-      c.args.writes.now c.loop-write.write-index c.write-item.result c.as_str-name.result.now c.as_slice.result.now
-      c.loop-write-test.true c.write-item.is c.as_str-name.ensures.value c.as_slice.ensures c.loop-write.invariant.0 answer,
+          c.args.writes.now c.loop-write.write-index c.write-item.result c.as_str-name.result.now c.as_slice.result.now
+          c.loop-write-test.true c.write-item.is c.as_str-name.ensures.value c.as_slice.ensures c.loop-write.invariant.0 answer,
       omega (arith, c.write.ensures.count, c.loop-write.invariant.1),
     )
