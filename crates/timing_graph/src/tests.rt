@@ -89,6 +89,21 @@ fn wire(from: u32, to: u32, home: u32) -> Wire {
     }
 }
 
+fn wires(alloc: Global) -> Result<Vec<Wire>, AllocError> {
+    let wires = [
+        wire(7, 2, 0),
+        wire(1, 3, 0),
+        wire(0, 5, 0),
+        wire(4, 6, 0),
+        wire(14, 7, 2),
+        wire(6, 8, 2),
+        wire(5, 10, 2),
+        wire(9, 11, 2),
+        wire(12, 13, 2),
+    ];
+    Vec::from_slice(alloc, &wires)
+}
+
 fn pair(from: u32, to: u32, value: i64, launch: bool) -> Pair {
     Pair {
         from: PinId(from),
@@ -151,17 +166,7 @@ fn the_wire_into_a_clock_pin_is_no_arc(rt: HostRuntime) -> Result<(), AllocError
     let alloc = rt.alloc();
     let pins = pins(alloc)?;
     let timing = timing(alloc)?;
-    let wires = [
-        wire(7, 2, 0),
-        wire(1, 3, 0),
-        wire(0, 5, 0),
-        wire(4, 6, 0),
-        wire(14, 7, 2),
-        wire(6, 8, 2),
-        wire(5, 10, 2),
-        wire(9, 11, 2),
-        wire(12, 13, 2),
-    ];
+    let wires = wires(alloc)?;
     assert!(rt; timing.wires.len() == wires.len());
     assert_wires(&rt, &wires, pins.len());
     assert_pairs(&rt, timing.pairs.as_slice(), pins.len());
