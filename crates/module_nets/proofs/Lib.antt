@@ -1,0 +1,15 @@
+pub mod Bytes
+pub mod ListSteps
+pub mod WidthLaws
+pub mod TableSteps
+pub mod HeaderSteps
+pub mod GatherSteps
+pub mod NetLaws
+pub mod SpanLaws
+pub mod PieceSpans
+pub mod Refusing
+pub mod JudgeSteps
+pub mod EnterSteps
+pub mod TopSteps
+pub mod UseLaws
+pub mod BitLaws

@@ -1,3 +1,11 @@
 pub mod Nets
+pub mod Numbers
+pub mod Headers
 pub mod Tops
 pub mod Entering
+pub mod Refusals
+pub mod Tables
+pub mod Paths
+pub mod Gathering
+pub mod NetTables
+pub mod Judging

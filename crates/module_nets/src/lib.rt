@@ -2,5 +2,22 @@
 #![tactic(auto)]
 
 mod faults;
+mod gathering;
+mod headers;
+mod judging;
+mod libraries;
+mod names;
+mod nets;
+mod tables;
+#[cfg(test)]
+mod tests;
+mod tops;
+mod widths;
 
 pub use faults::ElabFault;
+pub use headers::{Header, range_width};
+pub use judging::{Entered, enter, entered_count};
+pub use libraries::Library;
+pub use names::{printed, printed_below};
+pub use nets::{NetTable, Span};
+pub use tops::top;

@@ -1,4 +1,0 @@
-pub mod Chains
-pub mod Covers
-pub mod Drivers
-pub mod Slots
