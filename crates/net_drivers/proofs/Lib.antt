@@ -1,0 +1,15 @@
+pub mod ChainLemmas
+pub mod CoverLemmas
+pub mod SlotSteps
+pub mod NumberLaws
+pub mod JointLaws
+pub mod CountLaws
+pub mod LinkLaws
+pub mod ApartLaws
+pub mod OwnLaws
+pub mod AppendLaws
+pub mod JoinLaws
+pub mod PhaseLaws
+pub mod FillLaws
+pub mod WholeLaws
+pub mod WiringLaws

@@ -1,0 +1,9 @@
+use Rattle.std.proofs.Common.{take}
+use Rattle.std.specs.List.{flat_map}
+use Rattle.module_nets.specs.Nets.{all_bits}
+use Rattle.net_drivers.specs.Drivers.{assign_drives}
+use Rattle.net_drivers.specs.Phases.{IsFilled}
+use Rattle.net_drivers.proofs.drives.drive_assigns.Given as goal
+
+abbrev pub invariant-loop-assign : goal.invariant-loop-assign
+invariant-loop-assign l = IsFilled (all_bits l.table.module.now) (flat_map (assign_drives l.table.module.now) (take l.assign-index l.assigns)) l.initial.slots l.slots

@@ -1,0 +1,13 @@
+pub mod Chains
+pub mod Covers
+pub mod Drivers
+pub mod Slots
+pub mod Numbering
+pub mod Wires
+pub mod Joints
+pub mod Links
+pub mod Appending
+pub mod Joins
+pub mod Phases
+pub mod Wirings
+pub mod WiringAnswers

@@ -1,0 +1,151 @@
+ghost use Rattle.std.specs.Prelude.{◌≡◌, ◌++◌, ◌≤◌, ◌<◌, ◌^◌, length, All, IfOk, OnOk, replicate};
+ghost use Rattle.module_nets.specs.Nets.{joined_bits, module_called, pieces_of_link};
+ghost use Rattle.net_drivers.specs.Appending.{Appends, AreNumbers, IsFine};
+ghost use Rattle.net_drivers.specs.Links.{IsJoining};
+ghost use Rattle.net_drivers.specs.Joints.{directions, joints, own_joints};
+ghost use Rattle.net_drivers.specs.Joins.{IsJoined, joined_ports};
+
+use crate::links::{Joining, link_of};
+use crate::numbers::put_link;
+use crate::slots::Joint;
+use bud_syntax::{Dir, Instance, Link, Port};
+use module_nets::{Header, Library, NetTable, range_width};
+use std::alloc::{AllocError, Global};
+
+/// Appends a direction so many times.
+fn put_direction(into: &mut Vec<Dir>, dir: Dir, count: usize) -> Result<(), AllocError>
+    ensures { OnOk result (into.new.items ≡ into.old.items ++ replicate count dir) }
+{
+    for _bit in 0..count {
+        into.push(dir)?;
+    }
+    Ok(())
+}
+
+/// The directions of ports, bit by bit.
+fn directions(alloc: Global, ports: &[Port]) -> Result<Vec<Dir>, AllocError>
+    ensures { IfOk result (λ dirs. dirs.items ≡ directions ports.now) }
+{
+    let mut dirs = Vec::new(alloc);
+    for port in ports {
+        put_direction(&mut dirs, port.dir, range_width(port.range))?;
+    }
+    Ok(dirs)
+}
+
+/// The port bits of a module, joined to its first net bits.
+pub fn own_joints(alloc: Global, ports: &[Port]) -> Result<Vec<Joint>, AllocError>
+    requires { length (directions ports.now) < 2 ^ 32 }
+    ensures { IfOk result (λ own. own.items ≡ own_joints 0 (directions ports.now)) }
+{
+    let dirs = directions(alloc, ports)?;
+    number_joints(alloc, dirs.as_slice())
+}
+
+/// Each direction with its place.
+fn number_joints(alloc: Global, dirs: &[Dir]) -> Result<Vec<Joint>, AllocError>
+    requires { length dirs.now < 2 ^ 32 }
+    ensures { IfOk result (λ own. own.items ≡ own_joints 0 dirs.now) }
+{
+    let mut own = Vec::new(alloc);
+    for (bit, dir) in dirs.iter().enumerate() {
+        own.push(Joint {
+            dir: *dir,
+            bit: Some(bit as u32),
+        })?;
+    }
+    Ok(own)
+}
+
+/// Directions and numbers side by side.
+fn pair_joints(
+    alloc: Global,
+    dirs: &[Dir],
+    numbers: &[Option<u32>],
+) -> Result<Vec<Joint>, AllocError>
+    ensures { IfOk result (λ pairs. pairs.items ≡ joints dirs.now numbers.now) }
+{
+    let mut pairs = Vec::new(alloc);
+    for k in 0..dirs.len().min(numbers.len()) {
+        pairs.push(Joint {
+            dir: dirs[k],
+            bit: numbers[k],
+        })?;
+    }
+    Ok(pairs)
+}
+
+/// Appends the numbers of the net bits that links join to ports.
+fn put_ports(
+    table: &NetTable<'_>,
+    header: &Header<'_>,
+    ports: &[Port],
+    links: &[Link],
+    joining: &Joining,
+    into: &mut Vec<Option<u32>>,
+) -> Result<(), AllocError>
+    requires small { table.now.bits ≤ 8388608 }
+    requires ports { ports.now ≡ header.now.module.now.ports }
+    requires fine { All (λ l. All (IsFine table.now.module.now) (pieces_of_link l)) links.now }
+    requires joining { IsJoining header.now.module.now links.now joining.now.named.items joining.now.placed.items }
+    ensures { OnOk result (Appends table.now.module.now (joined_ports 0 table.now.module.now links.now ports.now) into.old.items into.new.items) }
+{
+    for (place, port) in ports.iter().enumerate() {
+        let number = link_of(header, links, joining, place, port);
+        put_link(table, port, links, number, into)?;
+    }
+    Ok(())
+}
+
+/// The numbers of the net bits at the port bits of an instance.
+fn joined_numbers(
+    alloc: Global,
+    table: &NetTable<'_>,
+    header: &Header<'_>,
+    instance: &Instance,
+) -> Result<Vec<Option<u32>>, AllocError>
+    requires small { table.now.bits ≤ 8388608 }
+    requires fine { All (λ l. All (IsFine table.now.module.now) (pieces_of_link l)) instance.now.links }
+    ensures { IfOk result (λ numbers. AreNumbers table.now.module.now (joined_bits table.now.module.now header.now.module.now instance.now) numbers.items) }
+{
+    let links = instance.links.as_slice();
+    let ports = header.module.ports.as_slice();
+    let joining = Joining::new(alloc, header, links)?;
+    let mut numbers = Vec::new(alloc);
+    put_ports(table, header, ports, links, &joining, &mut numbers)?;
+    Ok(numbers)
+}
+
+/// The port bits of an instance of a known module.
+fn child_joints(
+    alloc: Global,
+    table: &NetTable<'_>,
+    header: &Header<'_>,
+    instance: &Instance,
+) -> Result<Vec<Joint>, AllocError>
+    requires small { table.now.bits ≤ 8388608 }
+    requires fine { All (λ l. All (IsFine table.now.module.now) (pieces_of_link l)) instance.now.links }
+    ensures { IfOk result (λ pairs. IsJoined table.now.module.now instance.now (Some header.now.module.now) pairs.items) }
+{
+    let dirs = directions(alloc, header.module.ports.as_slice())?;
+    let numbers = joined_numbers(alloc, table, header, instance)?;
+    let pairs = pair_joints(alloc, dirs.as_slice(), numbers.as_slice())?;
+    Ok(pairs)
+}
+
+/// The port bits of an instance, none where its module isn't in the netlist.
+pub fn instance_joints(
+    alloc: Global,
+    library: &Library<'_>,
+    table: &NetTable<'_>,
+    instance: &Instance,
+) -> Result<Vec<Joint>, AllocError>
+    requires small { table.now.bits ≤ 8388608 }
+    requires fine { All (λ l. All (IsFine table.now.module.now) (pieces_of_link l)) instance.now.links }
+    ensures { IfOk result (λ pairs. IsJoined table.now.module.now instance.now (module_called library.now.modules.now instance.now.«module») pairs.items) }
+{
+    match library.child(instance.module.as_slice()) {
+        Some(header) => child_joints(alloc, table, header, instance),
+        None => Ok(Vec::new(alloc)),
+    }
+}
