@@ -1,0 +1,12 @@
+pub mod Lists
+pub mod Called
+pub mod Walks
+pub mod Growing
+pub mod Tops
+pub mod Trees
+pub mod PortBits
+pub mod Siblings
+pub mod PinNumbers
+pub mod Driving
+pub mod DesignLaws
+pub mod OneDesign
