@@ -1,0 +1,12 @@
+pub mod Chains
+pub mod ForestLemmas
+pub mod Settling
+pub mod Climbing
+pub mod Crowning
+pub mod Above
+pub mod EndSteps
+pub mod Adding
+pub mod RestSteps
+pub mod NetLaws
+pub mod RestLaws
+pub mod NetAnswers

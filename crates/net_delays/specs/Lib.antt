@@ -1,0 +1,9 @@
+pub mod Drives
+pub mod Forests
+pub mod Climbs
+pub mod WireForests
+pub mod Alongs
+pub mod EndLists
+pub mod Additions
+pub mod Rests
+pub mod Nets
