@@ -1,0 +1,9 @@
+pub mod Sorting
+pub mod Thinning
+pub mod Greatest
+pub mod Filtering
+pub mod PairLaws
+pub mod PairTableLaws
+pub mod CheckLaws
+pub mod LaunchLaws
+pub mod FaultSteps

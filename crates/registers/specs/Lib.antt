@@ -1,0 +1,9 @@
+pub mod Registers
+pub mod Tables
+pub mod Marks
+pub mod RegisterMarks
+pub mod PairLists
+pub mod PairTables
+pub mod CheckLists
+pub mod Launches
+pub mod FaultLists
