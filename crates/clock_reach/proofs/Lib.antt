@@ -1,0 +1,4 @@
+pub mod LeavingLemmas
+pub mod FanoutSteps
+pub mod WalkLemmas
+pub mod ReachLaws

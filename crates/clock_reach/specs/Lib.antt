@@ -1,0 +1,4 @@
+pub mod FanoutLists
+pub mod Leaving
+pub mod Walks
+pub mod Reached
