@@ -1,0 +1,4 @@
+pub mod RangeSteps
+pub mod NameSteps
+pub mod AnswerLaws
+pub mod ThingLaws

@@ -1,0 +1,4 @@
+pub mod Answers
+pub mod PortNames
+pub mod Objects
+pub mod Within
