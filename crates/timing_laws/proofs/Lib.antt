@@ -1,0 +1,2 @@
+pub mod WireDelays
+pub mod OneTables
