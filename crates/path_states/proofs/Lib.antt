@@ -1,0 +1,3 @@
+pub mod EnteredLists
+pub mod KeptFacts
+pub mod ExploringSteps

@@ -1,0 +1,147 @@
+ghost use Rattle.std.specs.Prelude.{◌≡◌, ◌<◌, suc, length, OnOk, IfOk};
+ghost use Rattle.bud_base.specs.Leaving.{AreLinks};
+ghost use Rattle.path_states.specs.Tables.{table_of};
+ghost use Rattle.path_states.specs.Exploring.{IsExploring, IsExplored, Follows, AddsEdge, CanFollow, PinsBelow};
+
+use crate::entering::enter;
+use crate::tables::StateTable;
+use bud_base::{ArcId, Item, ItemId, Links, NodeId, PinId};
+use bud_design::Constraints;
+use class_steps::{first_class, next_class};
+use indexmap::IndexSet;
+use std::alloc::{AllocError, Global};
+
+/// Goes along an arc from a state.
+fn follow(
+    alloc: Global,
+    arcs: &[Item],
+    all: &Constraints,
+    table: &mut StateTable,
+    from: u32,
+    arc: ItemId,
+    launch: u32,
+) -> Result<(), AllocError>
+    requires { CanFollow arcs.now (table_of table.old) from arc.0 launch }
+    ensures { OnOk result (Follows arcs.now all.now (table_of table.old) (table_of table.new) from arc.0 launch) }
+{
+    let pin = PinId(arcs[arc.0 as usize].to.0);
+    let state = table.states.as_slice()[from as usize];
+    let class = next_class(alloc, all, &table.kinds[state.kind as usize], pin)?;
+    let to = enter(table, pin, class, launch)?;
+    add_edge(table, NodeId(from), NodeId(to), ArcId(arc.0))?;
+    Ok(())
+}
+
+fn add_edge(table: &mut StateTable, from: NodeId, to: NodeId, arc: ArcId) -> Result<(), AllocError>
+    ensures { OnOk result (AddsEdge (table_of table.old) (table_of table.new) from to arc) }
+{
+    table.edges.push(Item {
+        from,
+        to,
+        least: 0,
+        greatest: 0,
+        weight: 0,
+    })?;
+    table.arcs.push(arc)?;
+    Ok(())
+}
+
+/// Enters the state where a launch begins.
+fn begin(
+    alloc: Global,
+    arcs: &[Item],
+    all: &Constraints,
+    table: &mut StateTable,
+    number: u32,
+) -> Result<(), AllocError>
+    requires within { number < length all.now.launches }
+    requires exploring { IsExploring arcs.now all.now (table_of table.old) (length table.old.states.keys) number number }
+    ensures { OnOk result (IsExploring arcs.now all.now (table_of table.new) (length table.old.states.keys) number (suc number)) }
+{
+    let launch = all.launches.as_slice()[number as usize];
+    let class = first_class(alloc, all, &launch)?;
+    let _ = enter(table, launch.pin, class, number)?;
+    Ok(())
+}
+
+/// Goes along each arc from the next state.
+fn take(
+    alloc: Global,
+    arcs: &[Item],
+    links: &Links,
+    all: &Constraints,
+    table: &mut StateTable,
+    done: u32,
+    launch: u32,
+) -> Result<(), AllocError>
+    requires links { AreLinks arcs.now links.now }
+    requires pins { PinsBelow (length links.now.first) arcs.now all.now }
+    requires next { done < length table.old.states.keys }
+    requires exploring { IsExploring arcs.now all.now (table_of table.old) done launch (suc launch) }
+    ensures { OnOk result (IsExploring arcs.now all.now (table_of table.new) (suc done) launch (suc launch)) }
+{
+    let pin = table.states.as_slice()[done as usize].pin;
+    let mut next = links.first(NodeId(pin.0));
+    while let Some(arc) = next {
+        follow(alloc, arcs, all, table, done, arc, launch)?;
+        next = links.next(arc);
+    }
+    Ok(())
+}
+
+/// Goes on until each state has its edges, and tells how many states there are.
+fn close(
+    alloc: Global,
+    arcs: &[Item],
+    links: &Links,
+    all: &Constraints,
+    table: &mut StateTable,
+    mut done: u32,
+    launch: u32,
+) -> Result<u32, AllocError>
+    requires links { AreLinks arcs.now links.now }
+    requires pins { PinsBelow (length links.now.first) arcs.now all.now }
+    requires exploring { IsExploring arcs.now all.now (table_of table.old) done launch (suc launch) }
+    ensures all { IfOk result (λ done. done ≡ length table.new.states.keys) }
+    ensures explored { OnOk result (IsExploring arcs.now all.now (table_of table.new) (length table.new.states.keys) launch (suc launch)) }
+{
+    while (done as usize) < table.states.len() {
+        take(alloc, arcs, links, all, table, done, launch)?;
+        let Some(more) = done.checked_add(1) else {
+            return Err(AllocError);
+        };
+        done = more;
+    }
+    Ok(done)
+}
+
+/// The states that launches reach along arcs between so many pins. The arcs are given as items from pin to pin.
+pub fn explore(
+    alloc: Global,
+    arcs: &[Item],
+    all: &Constraints,
+    pins: u32,
+) -> Result<StateTable, AllocError>
+    requires small { length arcs.now < 2147483648 }
+    requires pins { PinsBelow pins arcs.now all.now }
+    ensures { IfOk result (λ t. IsExplored arcs.now all.now (table_of t)) }
+{
+    let mut links = Links::new(alloc, pins, arcs.len())?;
+    links.fill(arcs);
+    let mut table = StateTable {
+        kinds: Vec::new(alloc),
+        states: IndexSet::new(alloc),
+        launches: Vec::new(alloc),
+        edges: Vec::new(alloc),
+        arcs: Vec::new(alloc),
+    };
+    let mut done = 0;
+    for place in 0..all.launches.len() {
+        let Ok(number) = u32::try_from(place) else {
+            return Err(AllocError);
+        };
+        begin(alloc, arcs, all, &mut table, number)?;
+        done = close(alloc, arcs, &links, all, &mut table, done, number)?;
+    }
+    Ok(table)
+}

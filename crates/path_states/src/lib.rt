@@ -1,0 +1,9 @@
+//! The states that launches reach: a pin in a class, and how arcs lead from state to state.
+#![tactic(auto)]
+
+mod entering;
+mod exploring;
+mod tables;
+
+pub use exploring::explore;
+pub use tables::{State, StateTable};
