@@ -1,0 +1,4 @@
+pub mod Rising
+pub mod Searching
+pub mod FirstSteps
+pub mod RankSteps
