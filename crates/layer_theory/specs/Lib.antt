@@ -1,0 +1,2 @@
+pub mod PolicyRefusals
+pub mod LayerAnswers
