@@ -1,0 +1,3 @@
+pub mod ReachedStates
+pub mod LiveStates
+pub mod LayerStates
