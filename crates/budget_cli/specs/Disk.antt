@@ -10,7 +10,7 @@ use Rattle.bud_shelf.specs.declared.shelves.ShelfFault.TheVariants.{Missing, Fai
 abbrev pub fault_of_kind : ErrorKind → ShelfFault
 fault_of_kind NotFound = Missing
 fault_of_kind OutOfMemory = NoMemory
-fault_of_kind other = Failed
+fault_of_kind _ = Failed
 
 -- the bytes are few enough, or so many are too many
 abbrev pub IsLoaded : List ℕ → Result (Unit {0}) ShelfFault → Type 0
