@@ -1,0 +1,10 @@
+pub mod PlacingSteps
+pub mod StartSteps
+pub mod EndSteps
+pub mod PartFacts
+pub mod Assembly
+pub mod TableFacts
+pub mod TableReads
+pub mod CanLayers
+pub mod LayeredParts
+pub mod PartLaws
