@@ -1,6 +1,6 @@
 -- The top of a netlist is one of its modules, which is found by its name, and no cell.
 use Rattle.std.specs.Prelude.{◌≡◌, ℕ, ◌<◌, ◌&&◌, ◌||◌, not, Bool, true, false, List, [], ◌∷◌, map, length, filter, find, flat_map, Option, Some, None, Result, Ok, Err, All, AllPairs, slice_index_or, zero, suc, if◌then◌else◌}
-use Rattle.std.specs.Option.{option_or}
+use Rattle.std.specs.Option.{option_or, option_map}
 use Rattle.std.specs.Str.{bytes_eq}
 use Rattle.std.proofs.Common.{true≢false, arith, sym, ◌∙◌, refl, ap, subst}
 use Rattle.std.proofs.lemmas.Slice.Eq.{bytes_eq-Decides}
@@ -11,9 +11,9 @@ use Rattle.bud_design.specs.Lists.{only, has_name, first_again}
 use Rattle.bud_design.specs.Names.{Named, object_of, meaning, printed, plain}
 use Rattle.bud_design.proofs.ClassLaws.{pairs-head, pairs-tail}
 use Rattle.module_nets.specs.declared.faults.ElabFault.{ElabFault}
-use Rattle.module_nets.specs.declared.faults.ElabFault.TheVariants.{NoTop}
+use Rattle.module_nets.specs.declared.faults.ElabFault.TheVariants.{ModuleTwice, NoTop}
 use Rattle.module_nets.specs.Nets.{module_called}
-use Rattle.module_nets.specs.Tops.{named_modules, plain_module, roots, one_root, chosen, unless_twice, top_module}
+use Rattle.module_nets.specs.Tops.{named_modules, plain_module, roots, one_root, chosen, unless_refused, top_module}
 
 abbrev pub Differ_names : List (List ℕ) → Type 0
 Differ_names names = AllPairs (λ a b. bytes_eq a b ≡ false) names
@@ -182,7 +182,7 @@ chosen-top modules P (Some name) m all found = named-top modules P name m all fo
 pub top-called : (modules : List Module) (top : Option (List ℕ)) (m : Module) → top_module modules top ≡ Ok m → (module_called modules m.name ≡ Some m) × (m.leaf ≡ false)
 top-called modules top m found = by_twice (first_again [] (map (λ m. m.name) modules)) refl found
   where
-    by_twice : (o : Option (List ℕ)) → first_again [] (map (λ m. m.name) modules) ≡ o → unless_twice o (chosen modules top) ≡ Ok m → (module_called modules m.name ≡ Some m) × (m.leaf ≡ false)
+    by_twice : (o : Option (List ℕ)) → first_again [] (map (λ m. m.name) modules) ≡ o → unless_refused (option_map (λ name. ModuleTwice (printed name)) o) (chosen modules top) ≡ Ok m → (module_called modules m.name ≡ Some m) × (m.leaf ≡ false)
     by_twice (Some name) is found = absurd (true≢false (sym (ap is_fine found)))
     by_twice None is found =
         chosen-top modules (λ m. module_called modules m.name ≡ Some m) top m (own-called modules (first_again-none [] (map (λ m. m.name) modules) is).0) found
