@@ -97,40 +97,25 @@ fn top_is_entered(rt: HostRuntime) -> Result<(), Fail> {
     Ok(())
 }
 
-#[test]
-fn select_outside_its_range(rt: HostRuntime) -> Result<(), Fail> {
-    let modules = vec![in rt.alloc(); cell(rt.alloc())?, holder(rt.alloc(), 2)?]?;
-    match counted(rt.alloc(), modules.as_slice()) {
-        Err(ElabFault::Select(name)) => assert_eq!(rt; name.as_slice(), b"a".as_slice()),
-        _ => assert!(rt; false),
+/// The name that a refusal carries: of a select, or of a module that stands twice.
+fn name_in(fault: &ElabFault) -> &[u8] {
+    match fault {
+        ElabFault::Select(name) | ElabFault::ModuleTwice(name) => name.as_slice(),
+        _ => b"".as_slice(),
     }
-    Ok(())
 }
 
 #[test]
-fn module_twice(rt: HostRuntime) -> Result<(), Fail> {
-    let modules = vec![in rt.alloc(); cell(rt.alloc())?, cell(rt.alloc())?]?;
-    match counted(rt.alloc(), modules.as_slice()) {
-        Err(ElabFault::ModuleTwice(name)) => assert_eq!(rt; name.as_slice(), b"c".as_slice()),
-        _ => assert!(rt; false),
+fn refusals_carry_names(rt: HostRuntime) -> Result<(), Fail> {
+    let outside = vec![in rt.alloc(); cell(rt.alloc())?, holder(rt.alloc(), 2)?]?;
+    match counted(rt.alloc(), outside.as_slice()) {
+        Err(fault) => assert_eq!(rt; name_in(&fault), b"a".as_slice()),
+        Ok(_) => assert!(rt; false),
     }
-    Ok(())
-}
-
-#[test]
-fn cell_is_no_top(rt: HostRuntime) -> Result<(), Fail> {
-    let modules = vec![in rt.alloc(); cell(rt.alloc())?]?;
-    match Library::new(rt.alloc(), modules.as_slice()) {
-        Ok(library) => {
-            match top(rt.alloc(), &library, Some(b"c")) {
-                Err(ElabFault::NoTop(Some(name))) => assert_eq!(rt;
-                    name.as_slice(),
-                    b"c".as_slice()
-                ),
-                _ => assert!(rt; false),
-            }
-        }
-        Err(_) => assert!(rt; false),
+    let twice = vec![in rt.alloc(); cell(rt.alloc())?, cell(rt.alloc())?]?;
+    match counted(rt.alloc(), twice.as_slice()) {
+        Err(fault) => assert_eq!(rt; name_in(&fault), b"c".as_slice()),
+        Ok(_) => assert!(rt; false),
     }
     Ok(())
 }

@@ -1,7 +1,7 @@
 -- In a netlist that is read the names of a module's ports differ.
-use Rattle.std.specs.Prelude.{◌≡◌, ℕ, ◌<◌, ◌&&◌, ◌||◌, nat_lt, Bool, true, false, List, [], ◌∷◌, ◌++◌, map, length, Option, Some, None, All, AllPairs, slice_index_or, if◌then◌else◌}
+use Rattle.std.specs.Prelude.{◌≡◌, ℕ, ◌<◌, ◌+◌, ◌&&◌, ◌||◌, nat_lt, Bool, true, false, List, [], ◌∷◌, ◌++◌, map, flat_map, codes, length, Option, Some, None, All, AllPairs, slice_index_or, if◌then◌else◌}
 use Rattle.std.specs.List.{list_any}
-use Rattle.std.specs.Str.{bytes_eq}
+use Rattle.std.specs.Str.{byte, bytes_eq}
 use Rattle.std.proofs.Common.{true≢false, arith, sym, ◌∙◌, refl, ap, subst}
 use Rattle.std.proofs.lemmas.List.Elements.{All-nil, All-cons, All-head, All-tail, All-map, All-weaker}
 use Rattle.std.proofs.lemmas.List.Kept.{AllPairs-cons}
@@ -14,9 +14,11 @@ use Rattle.text_scan.specs.Repeat.Runs.{over, turn}
 use Rattle.text_scan.proofs.Binds.{step}
 use Rattle.text_scan.proofs.RepeatLaws.{repeat_sound}
 use Rattle.verilog_reader.specs.Breaches.{Breach}
+use Rattle.verilog_reader.specs.Breaches.Breach.{of_port, of_number}
 use Rattle.verilog_reader.specs.Left.{Left, Production, begins, size}
 use Rattle.verilog_reader.specs.Modules.{is_listed, one_if, listed_again, declared_again, undirected, earlier, earliest, header_declarations, item_declarations, declarations, first_declared, port_of, is_formed, breaches, module_of, assembled}
 use Rattle.verilog_reader.specs.Netlists.{marks, passed, made, part, is_at_end, parts, modules_of, fault_of, least_breach, whole, netlist, Reads}
+use Rattle.verilog_reader.specs.Words.{is_sign, is_word}
 use Rattle.verilog_reader.specs.Sources.{tree, directive, primitive}
 use Rattle.verilog_reader.specs.declared.trees.Assembled.{Assembled}
 use Rattle.verilog_reader.specs.declared.trees.HeaderPort.{HeaderPort}
@@ -116,23 +118,23 @@ abbrev FinePart : Option Assembled → Type 0
 FinePart None = Unit {0}
 FinePart (Some a) = Fine a
 
-abbrev first_of : {X : Type 0} → Option (Option Assembled × Left) → Option Assembled
+abbrev first_of : Option (Option Assembled × Left) → Option Assembled
 first_of None = None
 first_of (Some (a, s)) = a
 
 marks-fine : (s : Left) (x : Option Assembled) (t : Left) → marks s ≡ Some (x, t) → FinePart x
 unfolding marks
-marks-fine s x t read = step (directive s) _ (x, t) read (λ u here rest. subst FinePart (ap (λ o. first_of {X = Left} o) rest) tt)
+marks-fine s x t read = step (directive s) _ (x, t) read (λ u here rest. subst FinePart (ap (λ o. first_of o) rest) tt)
 
 passed-fine : (s : Left) (x : Option Assembled) (t : Left) → passed s ≡ Some (x, t) → FinePart x
 unfolding passed
-passed-fine s x t read = step (primitive s) _ (x, t) read (λ u here rest. subst FinePart (ap (λ o. first_of {X = Left} o) rest) tt)
+passed-fine s x t read = step (primitive s) _ (x, t) read (λ u here rest. subst FinePart (ap (λ o. first_of o) rest) tt)
 
 made-fine : (s : Left) (x : Option Assembled) (t : Left) → made s ≡ Some (x, t) → FinePart x
 unfolding made
 made-fine s x t read =
     step (tree s) _ (x, t) read (λ u here rest.
-    step (assembled u.0) _ (x, t) rest (λ a is last. subst FinePart (ap (λ o. first_of {X = Left} o) last) (assembled-fine u.0 a is)))
+    step (assembled u.0) _ (x, t) rest (λ a is last. subst FinePart (ap (λ o. first_of o) last) (assembled-fine u.0 a is)))
 
 part-fine : (s : Left) (x : Option Assembled) (t : Left) → part s ≡ Some (x, t) → FinePart x
 unfolding part
@@ -144,8 +146,8 @@ part-fine s x t read = by_both (begins (is_sign (byte "`")) s) (begins (is_word 
     by_both false false read = made-fine s x t read
 
 runs-fine : (s : Left) (xs : List (Option Assembled)) (u : Left) → Runs is_at_end part s xs u → All FinePart xs
-runs-fine s xs u (over s stops) = All-nil FinePart
-runs-fine s xs u (turn s t u x xs stops one rest) = All-cons FinePart x xs (part-fine s x t one) (runs-fine t xs u rest)
+runs-fine _ _ _ (over s ends) = All-nil FinePart
+runs-fine _ _ _ (turn s t u x xs goes_on one rest) = All-cons FinePart x xs (part-fine s x t one) (runs-fine t xs u rest)
 
 modules-once : (ps : List (Option Assembled)) → All FinePart ps → fault_of ps ≡ None → All HasPortsOnce (modules_of ps)
 modules-once [] fine none = All-nil HasPortsOnce
@@ -159,7 +161,7 @@ no-fault None at none = refl
 no-fault (Some n) None none = never _ none
 no-fault (Some n) (Some at) none = by_test (nat_lt at n.at) none
   where
-    by_test : (b : Bool) → (if b then Some (Rattle.verilog_reader.specs.Breaches.Breach.of_number at) else Some (Rattle.verilog_reader.specs.Breaches.Breach.of_port n.name n.at)) ≡ None → Some n ≡ None
+    by_test : (b : Bool) → (if b then Some (of_number at) else Some (of_port n.name n.at)) ≡ None → Some n ≡ None
     by_test true none = never _ none
     by_test false none = never _ none
 
