@@ -7,6 +7,7 @@ use Rattle.std.proofs.lemmas.List.Elements.{All-nil, All-cons, All-head, All-tai
 use Rattle.std.proofs.lemmas.List.Kept.{AllPairs-cons}
 use Rattle.bud_syntax.specs.declared.modules.Port.{Port}
 use Rattle.bud_syntax.specs.declared.modules.Module.{Module}
+use Rattle.bud_design.proofs.ClassLaws.{pairs-head, pairs-tail}
 use Rattle.elaborations.specs.Ports.{HasPortsOnce}
 use Rattle.text_scan.specs.Left.{◌>>=◌}
 use Rattle.text_scan.specs.Repeat.{Runs, repeat}
@@ -85,8 +86,7 @@ once-listed before (p ∷ ps) none =
 pairs-map : {X Y : Type 0} (R : Y → Y → Type 0) (f : X → Y) (xs : List X) → AllPairs (λ x y. R (f x) (f y)) xs → AllPairs R (map f xs)
 pairs-map R f [] pairs = λ i j d less below. absurd (omega (arith, less, below))
 pairs-map R f (x ∷ xs) pairs =
-    AllPairs-cons R (f x) (map f xs) (All-map (R (f x)) f xs (λ k d below. pairs 0 (k + 1) d (omega arith) (omega (arith, below))))
-    (pairs-map R f xs (λ i j d less below. pairs (i + 1) (j + 1) d (omega (arith, less)) (omega (arith, below))))
+    AllPairs-cons R (f x) (map f xs) (All-map (R (f x)) f xs (pairs-head (λ x y. R (f x) (f y)) x xs pairs)) (pairs-map R f xs (pairs-tail (λ x y. R (f x) (f y)) x xs pairs))
 
 abbrev Fine : Assembled → Type 0
 Fine a = a.fault ≡ None → HasPortsOnce a.«module»
