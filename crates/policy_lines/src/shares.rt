@@ -1,9 +1,9 @@
-ghost use Rattle.std.specs.Prelude.{◌≡◌, ◌<◌, map, length};
+ghost use Rattle.std.specs.Prelude.{◌≡◌, ◌<◌, map, length, All};
 ghost use Rattle.std.specs.Option.{option_map};
 ghost use Rattle.bud_design.specs.Arcs.{arc_at};
 ghost use Rattle.bud_design.specs.Policies.{suits_clock as suits, holds_place as holds, is_number, share, share_of as share_by, share_if as given_if};
 ghost use Rattle.policy_lines.specs.Lines.{line_number};
-ghost use Rattle.policy_lines.specs.Shares.{share_seen};
+ghost use Rattle.policy_lines.specs.Shares.{share_seen, IsSoundShare, IsSoundLine};
 
 use crate::places::is_inside;
 use bud_base::{ArcId, Text};
@@ -113,7 +113,8 @@ pub fn last_share(
     requires arc { arc.0 < length graph.now.arcs }
     requires home { (arc_at graph.now.arcs arc.0).home < length flat.now.places }
     requires numbers { numbers.now ≡ map (line_number flat.now graph.now.arcs) lines.now }
-    ensures { share_seen result ≡ share flat.now graph.now.arcs lines.now arc.0 clock.now }
+    ensures share { share_seen result ≡ share flat.now graph.now.arcs lines.now arc.0 clock.now }
+    ensures sound { All IsSoundLine lines.now → IsSoundShare (share_seen result) }
 {
     let mut place = lines.len();
     while place > 0 {
