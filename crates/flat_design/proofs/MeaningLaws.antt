@@ -6,26 +6,7 @@ use Rattle.std.specs.Str.{bytes_eq}
 use Rattle.std.proofs.Common.{arith, ◌∙◌, refl, ap, subst}
 use Rattle.bud_design.specs.Lists.{only}
 use Rattle.bud_design.specs.Names.{Named, object_of, meaning, plain}
-
-range-some : (k n : ℕ) → k < n → range_with_len k (n - k) ≡ k ∷ range_with_len (k + 1) (n - (k + 1))
-range-some k n below =
-    let one : n - k ≡ suc (n - (k + 1)) = omega (arith, below) in
-    ap (range_with_len k) one
-
-range-none : (k n : ℕ) → n ≤ k → range_with_len k (n - k) ≡ []
-range-none k n past =
-    let none : n - k ≡ 0 = omega (arith, past) in
-    ap (range_with_len k) none
-
--- the search from a number on
-pub find-here : (q : ℕ → Bool) (k n : ℕ) → k < n → q k ≡ true → find q (range_with_len k (n - k)) ≡ Some k
-find-here q k n below is = ap (find q) (range-some k n below) ∙ rw is refl
-
-pub find-next : (q : ℕ → Bool) (k n : ℕ) → k < n → q k ≡ false → find q (range_with_len k (n - k)) ≡ find q (range_with_len (k + 1) (n - (k + 1)))
-find-next q k n below is = ap (find q) (range-some k n below) ∙ rw is refl
-
-pub find-end : (q : ℕ → Bool) (k n : ℕ) → n ≤ k → find q (range_with_len k (n - k)) ≡ None
-find-end q k n past = ap (find q) (range-none k n past)
+use Rattle.name_tables.proofs.Finding.{found-below}
 
 filter-none : (q : ℕ → Bool) (xs : List ℕ) → find q xs ≡ None → filter q xs ≡ []
 filter-none q [] none = refl
@@ -55,20 +36,6 @@ filter-some q k (suc m) v found = by_test (q k) refl found (filter-some q (k + 1
 -- the only one, by the first from a number on and the first behind it
 pub only-none : (q : ℕ → Bool) (k n : ℕ) → find q (range_with_len k (n - k)) ≡ None → only (filter q (range_with_len k (n - k))) ≡ None
 only-none q k n none = ap only (filter-none q (range_with_len k (n - k)) none)
-
-found-below : (q : ℕ → Bool) (k m v : ℕ) → find q (range_with_len k m) ≡ Some v → (k ≤ v) × (v < k + m)
-found-below q k zero v found = absurd (cc)
-found-below q k (suc m) v found = by_test (q k) refl found (found-below q (k + 1) m v)
-  where
-    by_test : (b : Bool) → q k ≡ b → find q (range_with_len k (suc m)) ≡ Some v → (find q (range_with_len (k + 1) m) ≡ Some v → (k + 1 ≤ v) × (v < k + 1 + m)) → (k ≤ v) × (v < k + suc m)
-    by_test true e found rest =
-        let here : find q (range_with_len k (suc m)) ≡ Some k = rw e refl in
-        let same : k ≡ v = cc in
-        (omega (arith, same), omega (arith, same))
-    by_test false e found rest = let more = rest (rw e at found) in (omega (arith, more.0), omega (arith, more.1))
-
-pub found-within : (q : ℕ → Bool) (k n v : ℕ) → find q (range_with_len k (n - k)) ≡ Some v → v < n
-found-within q k n v found = let within = found-below q k (n - k) v found in omega (arith, within.0, within.1)
 
 filter-first : (q : ℕ → Bool) (k n v : ℕ) → find q (range_with_len k (n - k)) ≡ Some v → filter q (range_with_len k (n - k)) ≡ v ∷ filter q (range_with_len (v + 1) (n - (v + 1)))
 filter-first q k n v found =

@@ -1,14 +1,12 @@
 -- Texts that end so, and what stands before.
-use Rattle.std.specs.Prelude.{◌≡◌, ◌≢◌, ℕ, ◌<◌, ◌+◌, ◌-◌, drop, slice_index_or, length, Bool, true, false, List, ◌∷◌, ◌++◌, Option, Some, None}
+use Rattle.std.specs.Prelude.{◌≡◌, ◌≢◌, ℕ, ◌+◌, ◌-◌, drop, length, Bool, true, false, List, ◌++◌, Option, Some, None}
 use Rattle.std.specs.Borrow.{Bor}
 use Rattle.std.specs.Str.{bytes_eq}
 use Rattle.std.proofs.Common.{true≢false, arith, sym, ◌∙◌, refl, ap, append_assoc}
 use Rattle.std.proofs.lemmas.List.{append_cancel_right, length-append}
 use Rattle.std.proofs.Math.Seq.{drop-append_seam}
 use Rattle.std.proofs.lemmas.Slice.Eq.{bytes_eq-Decides}
-use Rattle.flat_design.specs.Fronts.{IsBefore, escapes}
-use Rattle.std.proofs.lemmas.List.{drop_more}
-use Rattle.bud_design.specs.Names.{plain_from}
+use Rattle.flat_design.specs.Fronts.{IsBefore}
 
 -- tests of texts that are equal together answer the same
 pub same-tests : (x y s t : List ℕ) → (x ≡ y → s ≡ t) → (s ≡ t → x ≡ y) → bytes_eq x y ≡ bytes_eq s t
@@ -45,21 +43,6 @@ before-more text mid first second (Some b) is some = is ∙ (ap (λ x. x ++ seco
 
 pub none-more : (text first second : List ℕ) → ((before : List ℕ) → text ≢ before ++ second) → (before : List ℕ) → text ≢ before ++ (first ++ second)
 none-more text first second none before same = none (before ++ first) (same ∙ sym (append_assoc before first second))
-
--- the rest of a plain name behind a backslash, or behind another byte
-escape-more : (escaped : Bool) (b : ℕ) (bs : List ℕ) → escapes escaped b ≡ true → plain_from escaped (b ∷ bs) ≡ plain_from true bs
-escape-more true b bs is = absurd (true≢false (sym is))
-escape-more false b bs is = rw is refl
-
-byte-more : (escaped : Bool) (b : ℕ) (bs : List ℕ) → escapes escaped b ≡ false → plain_from escaped (b ∷ bs) ≡ b ∷ plain_from false bs
-byte-more true b bs is = refl
-byte-more false b bs is = rw is refl
-
-pub escape-drop : (escaped : Bool) (name : List ℕ) (i : ℕ) → i < length name → escapes escaped (slice_index_or name i 0) ≡ true → plain_from escaped (drop i name) ≡ plain_from true (drop (i + 1) name)
-escape-drop escaped name i below is = ap (plain_from escaped) (drop_more name i 0 below) ∙ escape-more escaped (slice_index_or name i 0) (drop (i + 1) name) is
-
-pub byte-drop : (escaped : Bool) (name : List ℕ) (i : ℕ) → i < length name → escapes escaped (slice_index_or name i 0) ≡ false → plain_from escaped (drop i name) ≡ slice_index_or name i 0 ∷ plain_from false (drop (i + 1) name)
-byte-drop escaped name i below is = ap (plain_from escaped) (drop_more name i 0 below) ∙ byte-more escaped (slice_index_or name i 0) (drop (i + 1) name) is
 
 -- the end of a text, by its length
 pub end-of : (text before end : List ℕ) → text ≡ before ++ end → drop (length text - length end) text ≡ end

@@ -1,5 +1,5 @@
 -- A pin's name as what stands before its port, the port, and the number of its bit.
-use Rattle.std.specs.Prelude.{◌≡◌, ◌≢◌, ℕ, List, [], ◌∷◌, ◌++◌, ◌==◌, ◌<◌, ◌^◌, ◌&&◌, not, Bool, flat_map, decimal, Option, Some, None}
+use Rattle.std.specs.Prelude.{◌≡◌, ◌≢◌, ℕ, List, [], ◌∷◌, ◌++◌, ◌<◌, ◌^◌, flat_map, decimal, Option, Some, None}
 use Rattle.std.specs.Borrow.{Bor}
 use Rattle.bud_design.specs.declared.designs.Place.{Place}
 use Rattle.bud_design.specs.Designs.{way_down}
@@ -34,7 +34,3 @@ IsShort (Some n) = n < 2 ^ 64
 abbrev pub IsBefore : List ℕ → List ℕ → Option (Bor (List ℕ)) → Type 0
 IsBefore text end None = (before : List ℕ) → text ≢ before ++ end
 IsBefore text end (Some before) = text ≡ before.now ++ end
-
--- the byte is a backslash that makes the next byte stand for itself
-abbrev pub escapes : Bool → ℕ → Bool
-escapes escaped byte = not escaped && byte == 92

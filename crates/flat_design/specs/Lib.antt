@@ -1,2 +1,4 @@
 pub mod Flats
 pub mod Fronts
+pub mod Keyed
+pub mod Kinds

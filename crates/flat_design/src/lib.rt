@@ -2,6 +2,8 @@
 #![tactic(auto)]
 
 mod flats;
+mod keys;
+mod kinds;
 mod names;
 mod texts;
 mod writing;

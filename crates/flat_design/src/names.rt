@@ -1,5 +1,4 @@
-ghost use Rattle.std.specs.Prelude.{◌≡◌, ◌-◌, ◌<◌, ◌++◌, length, find, IfSome};
-ghost use Rattle.std.specs.List.{range_with_len};
+ghost use Rattle.std.specs.Prelude.{◌≡◌, ◌<◌, ◌++◌, length};
 ghost use Rattle.std.specs.Str.{bytes_eq};
 ghost use Rattle.bud_design.specs.DesignRules.{IsPrintedForm};
 ghost use Rattle.bud_design.specs.Designs.{place_at, place_name};
@@ -75,20 +74,4 @@ pub fn is_instance(places: &[Place], place: u32, name: &[u8], form: Form) -> boo
         Some(before) => is_front(places, parent, before, form),
         None => false,
     }
-}
-
-/// The first instance from this number on that has the name.
-pub fn instance_from(places: &[Place], from: usize, name: &[u8], form: Form) -> Option<u32>
-    requires places { ArePlaces places.now }
-    requires few { length places.now < 2147483648 }
-    requires below { 0 < from }
-    ensures first { result ≡ find (λ p. bytes_eq (formed form (place_name places.now 0 p)) name.now) (range_with_len from (length places.now - from)) }
-    ensures within { IfSome result (λ p. p < length places.now) }
-{
-    for number in from..places.len() {
-        if is_instance(places, number as u32, name, form) {
-            return Some(number as u32);
-        }
-    }
-    None
 }

@@ -2,9 +2,10 @@ ghost use Rattle.std.specs.Prelude.{◌≡◌, length};
 ghost use Rattle.std.specs.Str.{bytes_eq};
 ghost use Rattle.bud_design.specs.DesignRules.{IsPrintedForm};
 ghost use Rattle.bud_design.specs.Names.{plain, bit_name};
-ghost use Rattle.flat_design.specs.Fronts.{escapes, formed, brackets, IsBefore, IsShort};
+ghost use Rattle.flat_design.specs.Fronts.{formed, brackets, IsBefore, IsShort};
 
 use itoa::Buffer;
+use name_tables::is_escape;
 
 /// A form of a name: as printed, or without the backslashes that printing puts.
 #[derive(Clone, Copy, Debug)]
@@ -18,13 +19,6 @@ pub fn before_end<'a>(text: &'a [u8], end: &[u8]) -> Option<&'a [u8]>
     ensures { IsBefore text.now end.now result }
 {
     text.strip_suffix(end)
-}
-
-/// Whether the byte is a backslash that makes the next byte stand for itself.
-fn is_escape(escaped: bool, byte: u8) -> bool
-    ensures { result ≡ escapes escaped byte }
-{
-    !escaped && byte == b'\\'
 }
 
 /// How many bytes the plain name has.

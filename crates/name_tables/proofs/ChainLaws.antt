@@ -1,11 +1,13 @@
 -- Chains built from the last number to the first.
-use Rattle.std.proofs.Common.{◌≡◌, ℕ, ◌+◌, ◌-◌, ◌<◌, ◌≤◌, ◌==◌, Bool, true, false, List, [], length, get_or, set, Some, arith, refl, ap, subst, sym, ◌∙◌, inl, inr, get_or-set_same, get_or-set_other, if◌then◌else◌}
+use Rattle.std.proofs.Common.{◌≡◌, ℕ, ◌+◌, ◌-◌, ◌<◌, ◌≤◌, ◌==◌, Bool, true, false, List, [], length, get_or, set, find, Option, Some, None, arith, refl, ap, subst, sym, ◌∙◌, inl, inr, get_or-set_same, get_or-set_other, if◌then◌else◌}
+use Rattle.std.specs.List.{range_with_len}
+use Rattle.std.proofs.lemmas.Bool.Decides.{Decides-eqb}
 use Rattle.std.specs.Map.{lookup}
 use Rattle.std.proofs.lemmas.Bool.{cases_eq}
 use Rattle.std.proofs.Math.ListN.{length-set}
 use Rattle.name_tables.specs.ChainLists.{ChainLists}
 use Rattle.name_tables.specs.Chained.{number_or, found, first_of, AreChained}
-use Rattle.name_tables.proofs.Finding.{find-here, find-next, find-end, find-same}
+use Rattle.name_tables.proofs.Finding.{find-here, find-next, find-end, find-same, find-from, found-within, found-passes}
 
 -- no number is chained yet
 pub AreChained-none : (keyed : ℕ → ℕ) (count : ℕ) (next : List ℕ) → length next ≡ count → AreChained keyed count count (record { first = []; next = next })
@@ -73,3 +75,44 @@ chained-step keys low number old new some within so_far next first =
       omega (arith, some),
       AreChained-more (λ v. get_or keys v 0) (number - 1) (length keys) old new (omega (arith, some, within)) (subst (λ n. AreChained (λ v. get_or keys v 0) n (length keys) old) back so_far) next first,
     )
+
+-- a search for what has the key may go on at this number
+pub record LeadsOn (keyed : ℕ → ℕ) (q : ℕ → Bool) (count key from v : ℕ) : Type 0 where
+  pub behind : from ≤ v
+  pub within : v ≤ count
+  pub alike : v < count → keyed v ≡ key
+  pub same : find q (range_with_len from (count - from)) ≡ find q (range_with_len v (count - v))
+
+leads-on : (keyed : ℕ → ℕ) (q : ℕ → Bool) (count key from v : ℕ) → from ≤ count → ((w : ℕ) → q w ≡ true → keyed w ≡ key) → v ≡ number_or count (found keyed from count key)
+    → LeadsOn keyed q count key from v
+leads-on keyed q count key from v small weaker is = by_found (found keyed from count key) refl
+  where
+    on : find q (range_with_len from (count - from)) ≡ find q (range_with_len v (count - v))
+    on =
+        find-from q (λ w. keyed w == key) (λ w passes. (Decides-eqb (keyed w) key).1 (weaker w passes)) from count small
+        ∙ ap (λ w. find q (range_with_len w (count - w))) (sym is)
+    by_found : (o : Option ℕ) → found keyed from count key ≡ o → LeadsOn keyed q count key from v
+    by_found None e =
+        let last : v ≡ count = is ∙ ap (number_or count) e in
+        record { behind = omega (arith, last, small); within = omega (arith, last); alike = λ below. absurd (omega (arith, last, below)); same = on }
+    by_found (Some w) e =
+        let here : v ≡ w = is ∙ ap (number_or count) e in
+        let inside = found-within (λ w. keyed w == key) from count w e in
+        record {
+          behind = omega (arith, here, inside.0);
+          within = omega (arith, here, inside.1);
+          alike = λ below. ap keyed here ∙ (Decides-eqb (keyed w) key).0 (found-passes (λ w. keyed w == key) (range_with_len from (count - from)) w e);
+          same = on;
+        }
+
+-- from the lowest number to the first of the key
+pub leads-first : (keyed : ℕ → ℕ) (low count : ℕ) (chains : ChainLists) (q : ℕ → Bool) (key v : ℕ) → AreChained keyed low count chains → low ≤ count
+    → ((w : ℕ) → q w ≡ true → keyed w ≡ key) → v ≡ first_of chains key → LeadsOn keyed q count key low v
+leads-first keyed low count chains q key v are small weaker is = leads-on keyed q count key low v small weaker (is ∙ are.first key)
+
+-- from the number behind one of the key to the next of the key
+pub leads-next : (keyed : ℕ → ℕ) (low count : ℕ) (chains : ChainLists) (q : ℕ → Bool) (key u v : ℕ) → AreChained keyed low count chains → low ≤ u → u < count → keyed u ≡ key
+    → ((w : ℕ) → q w ≡ true → keyed w ≡ key) → v ≡ get_or chains.next u 0 → LeadsOn keyed q count key (u + 1) v
+leads-next keyed low count chains q key u v are from below alike weaker is =
+    leads-on keyed q count key (u + 1) v (omega (arith, below)) weaker
+    (is ∙ (are.next u from below ∙ ap (λ k. number_or count (found keyed (u + 1) count k)) alike))

@@ -11,7 +11,7 @@ use Rattle.flat_design.proofs.flats.Flat.name_of.Goals as goal
 
 pub returns-clause-ok : goal.returns-clause-ok
 returns-clause-ok c =
-    let flat = subst IsFlat c.self.view_is c.self.invariant in
+    let flat = subst IsFlat c.self.view_is c.self.invariant.flat in
     let p = c.index-as_slice-pin.result in
     let places : c.as_slice-2.result.now ≡ c.args.self.now.places = c.as_slice-2.ensures ∙ ap (λ (d : Design). d.places) c.self.view_is in
     let pins : c.as_slice.result.now ≡ c.args.self.now.pins = c.as_slice.ensures ∙ ap (λ (d : Design). d.pins) c.self.view_is in
