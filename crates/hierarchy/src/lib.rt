@@ -3,6 +3,8 @@
 
 mod elaboration;
 mod placing;
+#[cfg(test)]
+mod tests;
 mod walks;
 mod wirings;
 

@@ -136,6 +136,7 @@ pub fn enter_module(
         trail.line.as_slice(),
         count,
     )?;
+    // The count is over its limit before.
     if 8_388_608 < nets.bits {
         return Err(ElabFault::NoMemory);
     }
