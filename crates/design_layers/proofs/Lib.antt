@@ -2,3 +2,4 @@ pub mod ArcItems
 pub mod StateLimit
 pub mod ItemLimit
 pub mod Layerings
+pub mod WeightLaws

@@ -1,3 +1,4 @@
 pub mod Views
 pub mod GroupedStates
 pub mod Checking
+pub mod Weights

@@ -1,25 +1,27 @@
-ghost use Rattle.std.specs.Prelude.{length, IfOk};
+ghost use Rattle.std.specs.Prelude.{length, All, IfOk};
 ghost use Rattle.bud_design.specs.ConstraintRules.{AreSoundConstraints};
 ghost use Rattle.bud_design.specs.Correspondences.{Correspond};
 ghost use Rattle.bud_design.specs.TimingRules.{IsSoundGraph, IsSoundLayered};
 ghost use Rattle.layer_theory.specs.LayerAnswers.{IsLayerAnswer};
+ghost use Rattle.policy_lines.specs.Shares.{IsSoundLine};
 ghost use Rattle.design_layers.specs.Views.{whole_view, no_policy, HasSlackOf};
 
 use crate::arc_items::arc_items;
 use crate::checking::checked;
 use crate::grouped_states::states_within_limit;
-use bud_base::Item;
-use bud_design::{Constraints, Layered};
+use crate::weights::under_policy;
+use bud_design::{Constraints, Layered, Policy};
 use flat_design::Flat;
 use layer_theory::LayerFault;
 use path_classes::layer_arcs;
+use policy_lines::line_numbers;
 use std::alloc::Global;
 use timing_graph::Graph;
 
 /// The most items of a layering.
 const MOST_ITEMS: usize = 4194304;
 
-/// The most captures and launches that lists hold.
+/// More captures than this are answered as want of memory.
 const MOST_CAPTURES: usize = 2147483647;
 
 /// The layering of a flat design without a policy, where no limit is passed.
@@ -68,5 +70,36 @@ pub fn layer_without_policy(
     ensures slack { IfOk result (λ layered. HasSlackOf (whole_view flat.now graph.now all.now) layered.problem) }
 {
     let layered = plain_layering(alloc, flat, graph, all)?;
+    checked(layered)
+}
+
+/// The layering of a flat design under a policy: its budgeting problem, with what nodes and items stand for.
+///
+/// The first refusal of the first line that has one comes before the limits: an arc, an instance or a
+/// clock that the line names and that isn't there, or a block that is nested with an earlier one. Of
+/// several lines that count for an item the last one gives its extra and its weight.
+pub fn layer(
+    alloc: Global,
+    flat: &Flat,
+    graph: &Graph,
+    all: &Constraints,
+    policy: &Policy,
+) -> Result<Layered, LayerFault>
+    requires graph { IsSoundGraph flat.now graph.now }
+    requires constraints { AreSoundConstraints (length flat.now.pins) all.now }
+    requires lines { All IsSoundLine policy.now.lines }
+    ensures answer { IsLayerAnswer (whole_view flat.now graph.now all.now) policy.now result }
+    ensures sound { IfOk result (IsSoundLayered (length flat.now.pins) (length graph.now.arcs)) }
+    ensures paths { IfOk result (Correspond (whole_view flat.now graph.now all.now)) }
+    ensures slack { IfOk result (λ layered. HasSlackOf (whole_view flat.now graph.now all.now) layered.problem) }
+{
+    let clocks = all.clocks.as_slice();
+    let lines = policy.lines.as_slice();
+    let numbers = line_numbers(alloc, flat, graph, clocks, lines)?;
+    let plain = plain_layering(alloc, flat, graph, all)?;
+    let named = numbers.as_slice();
+    let Ok(layered) = under_policy(alloc, flat, graph, clocks, policy, named, plain) else {
+        return Err(LayerFault::NoMemory);
+    };
     checked(layered)
 }

@@ -5,5 +5,6 @@ mod arc_items;
 mod checking;
 mod grouped_states;
 mod layers;
+mod weights;
 
-pub use layers::layer_without_policy;
+pub use layers::{layer, layer_without_policy};
