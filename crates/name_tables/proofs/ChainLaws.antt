@@ -91,6 +91,7 @@ leads-on keyed q count key from v small weaker is = by_found (found keyed from c
     on =
         find-from q (λ w. keyed w == key) (λ w passes. (Decides-eqb (keyed w) key).1 (weaker w passes)) from count small
         ∙ ap (λ w. find q (range_with_len w (count - w))) (sym is)
+
     by_found : (o : Option ℕ) → found keyed from count key ≡ o → LeadsOn keyed q count key from v
     by_found None e =
         let last : v ≡ count = is ∙ ap (number_or count) e in
