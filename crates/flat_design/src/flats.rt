@@ -9,7 +9,7 @@ ghost use Rattle.flat_design.specs.Fronts.{formed};
 
 use crate::names::{instance_from, is_pin};
 use crate::texts::Form;
-use crate::writing::{append, name_backwards};
+use crate::writing::{append, name_backwards, place_backwards};
 use bud_base::{PinId, Text};
 use bud_design::{Pin, Pins, Place, Places, Wire, Wires};
 use std::alloc::AllocError;
@@ -175,6 +175,17 @@ impl Flat {
     {
         let pin = &self.pins.as_slice()[pin.0 as usize];
         let mut name = name_backwards(into.allocator(), self.places.as_slice(), pin)?;
+        name.reverse();
+        append(into, name.as_slice())
+    }
+
+    /// Adds the place's printed name, which is empty for the top; for want of memory the text stays.
+    pub fn name_of_place(&self, place: u32, into: &mut Text) -> Result<(), AllocError>
+        requires { place < length self.now.places }
+        ensures ok { OnOk result (into.new ≡ into.old ++ place_name self.now.places 0 place) }
+        ensures err { OnErr result (into.new ≡ into.old) }
+    {
+        let mut name = place_backwards(into.allocator(), self.places.as_slice(), place)?;
         name.reverse();
         append(into, name.as_slice())
     }

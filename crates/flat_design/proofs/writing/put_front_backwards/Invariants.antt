@@ -1,12 +1,11 @@
 use Rattle.std.proofs.Common.{◌≡◌, ◌<◌, ◌++◌, length, reverse}
-use Rattle.bud_design.specs.Names.{bit_name}
 use Rattle.flat_design.specs.declared.texts.Form.TheVariants.{Printed}
 use Rattle.flat_design.specs.Fronts.{front}
-use Rattle.flat_design.proofs.writing.name_backwards.Given as goal
+use Rattle.flat_design.proofs.writing.put_front_backwards.Given as goal
 
 abbrev pub invariant-loop-parent : goal.invariant-loop-parent
 invariant-loop-parent l =
-    (l.text.items ++ reverse (front Printed l.places l.place) ≡ reverse (front Printed l.places l.pin.place ++ bit_name l.pin.port l.pin.bit))
+    (l.text.items ++ reverse (front Printed l.places l.place) ≡ l.initial.text.items ++ reverse (front Printed l.places l.initial.place))
     × (l.place < length l.places)
 
 abbrev pub decreases-loop-parent : goal.decreases-loop-parent

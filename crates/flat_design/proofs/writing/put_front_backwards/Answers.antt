@@ -3,7 +3,7 @@ use Rattle.std.proofs.lemmas.List.{reverse-append}
 use Rattle.flat_design.specs.declared.texts.Form.TheVariants.{Printed}
 use Rattle.flat_design.specs.Fronts.{front}
 use Rattle.flat_design.proofs.FrontLaws.{front-more, is_below}
-use Rattle.flat_design.proofs.writing.name_backwards.Goals as goal
+use Rattle.flat_design.proofs.writing.put_front_backwards.Goals as goal
 
 regroup : (text name above : List ℕ) → ((text ++ 47 ∷ []) ++ name) ++ above ≡ text ++ (47 ∷ (name ++ above))
 regroup text name above = simp append_assoc
@@ -22,7 +22,7 @@ loop-parent-preserved c =
     let less = is_below c.args.places.now c.requires.places c.loop-parent.place c.in-Some.parent c.loop-parent.invariant.1 parent in
     let whole = front-more c.args.places.now c.requires.places Printed c.loop-parent.place c.in-Some.parent c.loop-parent.invariant.1 parent
     ∙ ap (λ name. front Printed c.args.places.now c.in-Some.parent ++ (name ++ 47 ∷ [])) (sym c.own_name.ensures) in (
-      step c.loop-parent.text.items c.push.new.self.items c.put_backwards-in-Some.new.text.items (front Printed c.args.places.now c.in-Some.parent) c.own_name.result.now
-          (front Printed c.args.places.now c.loop-parent.place) _ whole c.in_ok-push.ensures.items c.in_ok-put_backwards-2.ensures c.loop-parent.invariant.0,
+      step c.loop-parent.text.items c.push.new.self.items c.put_backwards.new.text.items (front Printed c.args.places.now c.in-Some.parent) c.own_name.result.now
+          (front Printed c.args.places.now c.loop-parent.place) _ whole c.in_ok-push.ensures.items c.in_ok-put_backwards.ensures c.loop-parent.invariant.0,
       omega (arith, less, c.loop-parent.invariant.1),
     )
