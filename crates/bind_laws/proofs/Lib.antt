@@ -1,0 +1,2 @@
+pub mod WireLists
+pub mod OneTiming

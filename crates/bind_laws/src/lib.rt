@@ -1,0 +1,6 @@
+//! Laws of bound delay files.
+#![tactic(auto)]
+
+mod laws;
+
+pub use laws::one_timing;
