@@ -1,0 +1,5 @@
+pub mod Placing
+pub mod Faults
+pub mod Surveys
+pub mod Walking
+pub mod Elaborating
