@@ -16,7 +16,7 @@ use bud_base::{Item, Links, Listed, Problem};
 use bud_design::{Constraints, Layered};
 use class_ends::link_captures;
 use live_states::mark_leading;
-use path_states::{StateTable, explore};
+use path_states::StateTable;
 use state_numbers::{KindKey, Placed, Ranks, are_rising, rank_kinds, sort_placed};
 use std::alloc::{AllocError, Global};
 
@@ -145,30 +145,31 @@ fn layered_from(
     })
 }
 
-/// The layering of arcs between so many pins, under no policy. The arcs are given as items from pin to pin.
+/// The layering of arcs between so many pins, under no policy, by the states that launches reach along them.
+/// The arcs are given as items from pin to pin.
 pub fn layer_arcs(
     alloc: Global,
     arcs: &[Item],
     all: &Constraints,
     pins: u32,
+    table: &StateTable,
 ) -> Result<Layered, AllocError>
-    requires small { length arcs.now < 2147483648 }
     requires captures { length all.now.captures < 2147483648 }
     requires pins { PinsBelow pins arcs.now all.now }
     requires capture_pins { All (λ x. x.pin.0 < pins) all.now.captures }
     requires sound { HasSoundConstraints all.now }
     requires clocks { All (λ l. l.clock < length all.now.clocks) all.now.launches }
     requires acyclic { HasNoRing arcs.now }
+    requires explored { IsExplored arcs.now all.now (table_of table.now) }
     ensures { IfOk result (λ layered. HasParts arcs.now all.now 1 layered) }
 {
-    let table = explore(alloc, arcs, all, pins)?;
     let captures = all.captures.as_slice();
     let links = link_captures(alloc, captures, pins)?;
-    let live = live_marks(alloc, arcs, all, &links, &table)?;
+    let live = live_marks(alloc, arcs, all, &links, table)?;
     let marks = live.as_slice();
-    let ranks = rank_kinds(alloc, &table, marks)?;
+    let ranks = rank_kinds(alloc, table, marks)?;
     let keys = ranks.keys.as_slice();
-    let places = place_all(alloc, all, &table, marks, &ranks)?;
-    let layered = layered_from(alloc, arcs, all, &links, &table, keys, &places)?;
+    let places = place_all(alloc, all, table, marks, &ranks)?;
+    let layered = layered_from(alloc, arcs, all, &links, table, keys, &places)?;
     Ok(layered)
 }
