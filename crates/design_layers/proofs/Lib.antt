@@ -1,0 +1,4 @@
+pub mod ArcItems
+pub mod StateLimit
+pub mod ItemLimit
+pub mod Layerings
