@@ -1,1 +1,2 @@
 pub mod JoinsWithin
+pub mod LayeredPaths

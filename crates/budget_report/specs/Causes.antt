@@ -6,43 +6,24 @@ use Rattle.bud_base.specs.declared.problems.Item.{Item}
 use Rattle.bud_base.specs.declared.problems.Problem.{Problem}
 use Rattle.bud_base.specs.declared.checks.ProblemFault.{ProblemFault}
 use Rattle.bud_base.specs.declared.checks.ProblemFault.TheVariants.{BadNode, BadBounds, BadTime, TooLarge, Cycle, Dead, NoMemory as ProblemMemory}
-use Rattle.bud_base.specs.declared.texts.TextFault.{TextFault}
-use Rattle.bud_base.specs.declared.texts.TextFault.TheVariants.{Syntax, Value, NoMemory as TextMemory}
 use Rattle.budget_report.specs.declared.statuses.Status.{Status}
-use Rattle.budget_report.specs.declared.statuses.Status.TheVariants.{Done, Violated, Words as Misfit, Fault, Refused, Design, Limit, Certificate, Memory}
+use Rattle.budget_report.specs.declared.statuses.Status.TheVariants.{Words as Misfit, Fault, Design as Unfit, Limit, Certificate, Memory}
 use Rattle.budget_report.specs.declared.causes.Cause.{Cause}
-use Rattle.budget_report.specs.declared.causes.Cause.TheVariants.{Words, Shelf, Sink, Length, Text as Lines, Problem as Unsound, Cert}
-use Rattle.budget_report.specs.declared.causes.Scene.{Scene}
-use Rattle.budget_report.specs.declared.causes.Scene.TheVariants.{Bare, Raw}
+use Rattle.budget_report.specs.declared.causes.Cause.TheVariants.{Words, Shelf, Sink, Length, Text as LineText, Verilog, Sdf, Sdc, Elab, Bind, Graph, Resolve, Layer, Problem as Unsound, Cert}
 use Rattle.budget_report.specs.Lines.{line, nodes_of}
+use Rattle.budget_report.specs.Readings.{memory_fields, text_status, verilog_status, sdf_status, sdc_status, text_fields, verilog_fields, sdf_fields, sdc_fields}
+use Rattle.bud_design.specs.Designs.{Design}
 use Rattle.budget_report.specs.Certificates.{IsNamed, cert_fields}
-
--- what a cause speaks of, beside a file
-pub data Subject : Type 0 where
-  bare : Subject
-  raw : (problem : Problem) → Subject
-
-abbrev pub subject_of : Scene → Subject
-subject_of Bare = bare
-subject_of (Raw problem) = raw problem.now
-
--- the problem that is spoken of, or else one without nodes
-abbrev pub problem_of : Subject → Problem
-problem_of bare = record { nodes = 0; items = []; starts = []; ends = [] }
-problem_of (raw problem) = problem
-
-abbrev pub text_status : TextFault → Status
-text_status (Syntax at) = Refused
-text_status (Value at) = Refused
-text_status TextMemory = Memory
+use Rattle.budget_report.specs.DesignFaults.{elab_status, bind_status, graph_status, resolve_status, layer_status, elab_fields, bind_fields, graph_fields, resolve_fields, layer_fields, graph_rest, HasPins}
+use Rattle.budget_report.specs.Subjects.{Subject, problem_of, design_of, HasDesign}
 
 abbrev pub problem_status : ProblemFault → Status
-problem_status (BadNode n) = Design
-problem_status (BadBounds i) = Design
-problem_status (BadTime n) = Design
+problem_status (BadNode n) = Unfit
+problem_status (BadBounds i) = Unfit
+problem_status (BadTime n) = Unfit
 problem_status (TooLarge count) = Limit
-problem_status (Cycle items) = Design
-problem_status (Dead n) = Design
+problem_status (Cycle items) = Unfit
+problem_status (Dead n) = Unfit
 problem_status ProblemMemory = Memory
 
 -- how a run ends that is refused for the cause
@@ -51,21 +32,17 @@ status_of Words = Misfit
 status_of (Shelf name) = Fault
 status_of Sink = Fault
 status_of (Length name count) = Limit
-status_of (Lines name fault) = text_status fault
+status_of (LineText name fault) = text_status fault
+status_of (Verilog name fault) = verilog_status fault
+status_of (Sdf name fault) = sdf_status fault
+status_of (Sdc name fault) = sdc_status fault
+status_of (Elab fault) = elab_status fault
+status_of (Bind fault) = bind_status fault
+status_of (Graph fault) = graph_status fault
+status_of (Resolve fault) = resolve_status fault
+status_of (Layer fault) = layer_status fault
 status_of (Unsound fault) = problem_status fault
 status_of (Cert fault) = Certificate
-
--- a file has no reading: its name, the offset, the kind
-abbrev pub refused_fields : List ℕ → ℕ → List ℕ → List (List ℕ)
-refused_fields name at kind = codes "refused" ∷ name ∷ decimal at ∷ kind ∷ []
-
-abbrev pub memory_fields : List (List ℕ)
-memory_fields = codes "memory" ∷ []
-
-abbrev pub text_fields : List ℕ → TextFault → List (List ℕ)
-text_fields name (Syntax at) = refused_fields name at (codes "syntax")
-text_fields name (Value at) = refused_fields name at (codes "value")
-text_fields name TextMemory = memory_fields
 
 -- the design, or a limit that it passes: a word and a number
 abbrev pub numbered_fields : List ℕ → List ℕ → ℕ → List (List ℕ)
@@ -92,7 +69,15 @@ fields_of p Words = codes "words" ∷ []
 fields_of p (Shelf name) = shelf_fields name
 fields_of p Sink = []
 fields_of p (Length name count) = length_fields name count
-fields_of p (Lines name fault) = text_fields name fault
+fields_of p (LineText name fault) = text_fields name fault
+fields_of p (Verilog name fault) = verilog_fields name fault
+fields_of p (Sdf name fault) = sdf_fields name fault
+fields_of p (Sdc name fault) = sdc_fields name fault
+fields_of p (Elab fault) = elab_fields fault
+fields_of p (Bind fault) = bind_fields fault
+fields_of p (Graph fault) = graph_fields fault
+fields_of p (Resolve fault) = resolve_fields fault
+fields_of p (Layer fault) = layer_fields fault
 fields_of p (Unsound fault) = problem_fields fault
 fields_of p (Cert fault) = cert_fields p fault
 
@@ -106,13 +91,14 @@ problem_rest items (Cycle ring) = ring_lines items ring
 problem_rest items other = []
 
 -- what stands below the line
-abbrev pub rest_of : Problem → Cause → List ℕ
-rest_of p (Unsound fault) = problem_rest p.items fault
-rest_of p other = []
+abbrev pub rest_of : Subject → Cause → List ℕ
+rest_of subject (Unsound fault) = problem_rest (problem_of subject).items fault
+rest_of subject (Graph fault) = graph_rest (design_of subject) fault
+rest_of subject other = []
 
 -- what is printed of a cause
 abbrev pub text_of : Subject → Cause → List ℕ
-text_of subject cause = line (fields_of (problem_of subject) cause) ++ rest_of (problem_of subject) cause
+text_of subject cause = line (fields_of (problem_of subject) cause) ++ rest_of subject cause
 
 -- the items of the cycle are the problem's
 abbrev pub HasItems : Problem → ProblemFault → Type 0
@@ -123,6 +109,7 @@ HasItems p other = Unit {0}
 abbrev pub Concerns : Subject → Cause → Type 0
 Concerns subject (Unsound fault) = HasItems (problem_of subject) fault
 Concerns subject (Cert fault) = IsNamed (problem_of subject) fault
+Concerns subject (Graph fault) = HasDesign subject × HasPins (design_of subject) fault
 Concerns subject other = Unit {0}
 
 -- the line of want of memory, which is no cause

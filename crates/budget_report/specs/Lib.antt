@@ -1,5 +1,9 @@
 pub mod Statuses
 pub mod Lines
+pub mod Subjects
 pub mod Certificates
+pub mod Readings
+pub mod DesignFaults
 pub mod Causes
 pub mod Violations
+pub mod DesignPaths

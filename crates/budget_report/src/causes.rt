@@ -1,15 +1,33 @@
 ghost use Rattle.std.specs.Prelude.{◌≡◌, ◌++◌, IfOk, OnOk};
 ghost use Rattle.budget_report.specs.Lines.{line};
-ghost use Rattle.budget_report.specs.Causes.{text_status, problem_status, status_of, subject_of, problem_of, raw, shelf_fields, length_fields, text_of, Concerns};
+ghost use Rattle.budget_report.specs.Subjects.{subject_of, problem_of};
+ghost use Rattle.budget_report.specs.Causes.{problem_status, status_of, shelf_fields, length_fields, text_of, Concerns};
 
 use crate::certificates::put_cert_fault;
-use crate::faults::{put_problem_fault, put_text_fault};
+use crate::designs::{
+    bind_status, elab_status, graph_status, layer_status, put_bind_fault, put_elab_fault,
+    put_graph_fault, put_layer_fault, put_resolve_fault, resolve_status,
+};
+use crate::faults::put_problem_fault;
 use crate::lines::put_number;
+use crate::readings::{
+    put_sdc_fault, put_sdf_fault, put_text_fault, put_verilog_fault, sdc_status, sdf_status,
+    text_status, verilog_status,
+};
+use crate::scenes::{Scene, problem_in};
 use crate::statuses::Status;
 use bud_base::{Ends, Items, Problem, ProblemFault, Starts, Text, TextFault};
+use delay_bind::BindFault;
+use layer_theory::LayerFault;
 use line_text::put_field;
+use module_nets::ElabFault;
 use plan_cert::CertFault;
+use sdc_reader::SdcFault;
+use sdf_reader::SdfFault;
 use std::alloc::{AllocError, Global};
+use timing_graph::GraphFault;
+use timing_objects::ResolveFault;
+use verilog_reader::VerilogFault;
 
 /// Why a job is refused. The first text of a cause is the file's name.
 ///
@@ -26,17 +44,26 @@ pub enum Cause {
     Length(Text, u64),
     /// The line text has no reading.
     Text(Text, TextFault),
+    /// The netlist has no reading.
+    Verilog(Text, VerilogFault),
+    /// The delay file has no reading.
+    Sdf(Text, SdfFault),
+    /// The constraints have no reading.
+    Sdc(Text, SdcFault),
+    /// The netlist has no flat design, or passes a limit.
+    Elab(ElabFault),
+    /// The delay file doesn't fit the design.
+    Bind(BindFault),
+    /// The arcs have a cycle.
+    Graph(GraphFault),
+    /// A timing command is refused.
+    Resolve(ResolveFault),
+    /// The policy doesn't fit the design, or the layering passes a limit.
+    Layer(LayerFault),
     /// The raw problem isn't sound, or passes a limit.
     Problem(ProblemFault),
     /// The certificate doesn't hold.
     Cert(CertFault),
-}
-
-/// What a cause speaks of, beside a file: a cause of a raw problem or its certificate needs the problem.
-#[derive(Clone, Copy, Debug)]
-pub enum Scene<'a> {
-    Bare,
-    Raw(&'a Problem),
 }
 
 impl Cause {
@@ -49,18 +76,17 @@ impl Cause {
             Cause::Shelf(_) | Cause::Sink => Status::Fault,
             Cause::Length(..) => Status::Limit,
             Cause::Text(_, fault) => text_status(*fault),
+            Cause::Verilog(_, fault) => verilog_status(fault),
+            Cause::Sdf(_, fault) => sdf_status(fault),
+            Cause::Sdc(_, fault) => sdc_status(fault),
+            Cause::Elab(fault) => elab_status(fault),
+            Cause::Bind(fault) => bind_status(fault),
+            Cause::Graph(fault) => graph_status(fault),
+            Cause::Resolve(fault) => resolve_status(fault),
+            Cause::Layer(fault) => layer_status(fault),
             Cause::Problem(fault) => problem_status(fault),
             Cause::Cert(_) => Status::Certificate,
         }
-    }
-}
-
-fn text_status(fault: TextFault) -> Status
-    ensures { result ≡ text_status fault }
-{
-    match fault {
-        TextFault::Syntax(_) | TextFault::Value(_) => Status::Refused,
-        TextFault::NoMemory => Status::Memory,
     }
 }
 
@@ -79,33 +105,27 @@ pub fn fault_text(alloc: Global, cause: &Cause, scene: Scene<'_>) -> Result<Text
     requires { Concerns (subject_of scene) cause.now }
     ensures { IfOk result (λ text. text ≡ text_of (subject_of scene.entry) cause.now) }
 {
-    match scene {
-        Scene::Raw(problem) => text_with(alloc, cause, problem),
-        Scene::Bare => {
-            let nothing = Problem {
-                nodes: 0,
-                items: Items::new(alloc),
-                starts: Starts::new(alloc),
-                ends: Ends::new(alloc),
-            };
-            text_with(alloc, cause, &nothing)
-        }
-    }
-}
-
-/// What is printed of a cause beside this problem.
-fn text_with(alloc: Global, cause: &Cause, problem: &Problem) -> Result<Text, AllocError>
-    requires { Concerns (raw problem.now) cause.now }
-    ensures { IfOk result (λ text. text ≡ text_of (raw problem.now) cause.now) }
-{
+    let nothing = Problem {
+        nodes: 0,
+        items: Items::new(alloc),
+        starts: Starts::new(alloc),
+        ends: Ends::new(alloc),
+    };
     let mut out = Vec::new(alloc);
-    put_cause(&mut out, cause, problem)?;
+    put_cause(&mut out, cause, scene, problem_in(scene, &nothing))?;
     Ok(Text::from_vec(out))
 }
 
-fn put_cause(out: &mut Vec<u8>, cause: &Cause, problem: &Problem) -> Result<(), AllocError>
-    requires { Concerns (raw problem.now) cause.now }
-    ensures { OnOk result (out.new.items ≡ out.old.items ++ text_of (raw problem.now) cause.now) }
+/// Adds the lines of a cause; the problem is that of the scene.
+fn put_cause(
+    out: &mut Vec<u8>,
+    cause: &Cause,
+    scene: Scene<'_>,
+    problem: &Problem,
+) -> Result<(), AllocError>
+    requires problem { problem.now ≡ problem_of (subject_of scene) }
+    requires concerns { Concerns (subject_of scene) cause.now }
+    ensures { OnOk result (out.new.items ≡ out.old.items ++ text_of (subject_of scene.entry) cause.now) }
 {
     match cause {
         Cause::Words => out.extend_from_slice(b"words\n"),
@@ -113,6 +133,14 @@ fn put_cause(out: &mut Vec<u8>, cause: &Cause, problem: &Problem) -> Result<(), 
         Cause::Sink => Ok(()),
         Cause::Length(name, count) => put_length(out, name.as_slice(), *count),
         Cause::Text(name, fault) => put_text_fault(out, name.as_slice(), *fault),
+        Cause::Verilog(name, fault) => put_verilog_fault(out, name.as_slice(), fault),
+        Cause::Sdf(name, fault) => put_sdf_fault(out, name.as_slice(), fault),
+        Cause::Sdc(name, fault) => put_sdc_fault(out, name.as_slice(), fault),
+        Cause::Elab(fault) => put_elab_fault(out, fault),
+        Cause::Bind(fault) => put_bind_fault(out, fault),
+        Cause::Graph(fault) => put_graph_fault(out, scene, fault),
+        Cause::Resolve(fault) => put_resolve_fault(out, fault),
+        Cause::Layer(fault) => put_layer_fault(out, fault),
         Cause::Problem(fault) => put_problem_fault(out, problem, fault),
         Cause::Cert(fault) => put_cert_fault(out, problem, *fault),
     }

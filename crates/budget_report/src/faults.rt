@@ -1,34 +1,11 @@
 ghost use Rattle.std.specs.Prelude.{◌≡◌, ◌<◌, ◌∷◌, ◌++◌, All, OnOk, codes, length};
 ghost use Rattle.budget_report.specs.Lines.{line, nodes_of};
-ghost use Rattle.budget_report.specs.Causes.{refused_fields, text_fields, numbered_fields, problem_fields, problem_rest, ring_lines, HasItems};
+ghost use Rattle.budget_report.specs.Causes.{numbered_fields, problem_fields, problem_rest, ring_lines, HasItems};
 
 use crate::lines::put_number;
-use bud_base::{Item, ItemId, Problem, ProblemFault, TextFault};
+use bud_base::{Item, ItemId, Problem, ProblemFault};
 use line_text::put_field;
 use std::alloc::AllocError;
-
-/// Adds the line of a line text that has no reading.
-pub fn put_text_fault(out: &mut Vec<u8>, name: &[u8], fault: TextFault) -> Result<(), AllocError>
-    ensures { OnOk result (out.new.items ≡ out.old.items ++ line (text_fields name.now fault)) }
-{
-    match fault {
-        TextFault::Syntax(at) => put_refused(out, name, at, b"syntax"),
-        TextFault::Value(at) => put_refused(out, name, at, b"value"),
-        TextFault::NoMemory => out.extend_from_slice(b"memory\n"),
-    }
-}
-
-/// Adds the line of a file without reading: its name, the offset and the kind of the refusal.
-fn put_refused(out: &mut Vec<u8>, name: &[u8], at: usize, kind: &[u8]) -> Result<(), AllocError>
-    ensures { OnOk result (out.new.items ≡ out.old.items ++ line (refused_fields name.now at kind.now)) }
-{
-    out.extend_from_slice(b"refused")?;
-    put_field(out, name)?;
-    put_number(out, at as u64)?;
-    put_field(out, kind)?;
-    out.push(b'\n')?;
-    Ok(())
-}
 
 /// Adds the lines of a problem that isn't sound.
 pub fn put_problem_fault(

@@ -4,14 +4,19 @@
 mod answers;
 mod causes;
 mod certificates;
+mod design_paths;
+mod designs;
 mod faults;
 mod lines;
+mod readings;
+mod scenes;
 mod statuses;
 #[cfg(test)]
 mod tests;
 mod violations;
 
 pub use answers::{holds_text, meets_text, no_paths_text};
-pub use causes::{Cause, Scene, fault_text};
+pub use causes::{Cause, fault_text};
+pub use scenes::Scene;
 pub use statuses::Status;
 pub use violations::violation_text;

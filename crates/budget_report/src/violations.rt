@@ -2,16 +2,19 @@ ghost use Rattle.std.specs.Prelude.{◌≡◌, ◌<◌, ◌∷◌, ◌++◌, [],
 ghost use Rattle.std.specs.Fmt.{signed_decimal};
 ghost use Rattle.bud_base.specs.Paths.{IsPath};
 ghost use Rattle.budget_report.specs.Lines.{line};
-ghost use Rattle.budget_report.specs.Causes.{subject_of, problem_of};
+ghost use Rattle.budget_report.specs.Subjects.{subject_of, problem_of};
+ghost use Rattle.budget_report.specs.DesignPaths.{path_text, IsDrawn};
 ghost use Rattle.budget_report.specs.Violations.{violated_text, arc_line, arc_lines, start_line, end_line};
 
-use crate::causes::Scene;
+use crate::design_paths::{Route, put_design_path};
 use crate::lines::put_number;
+use crate::scenes::Scene;
 use bud_base::{End, Item, ItemId, Problem, Start, Text};
 use line_text::put_whole;
 use std::alloc::{AllocError, Global};
 
-/// The lines of a violated path: its slack in ps, its start, its items and its end.
+/// The lines of a violated path: its slack in ps, its start, its items and its end; for a design also its classes, behind
+/// the slack.
 pub fn violation_text(
     alloc: Global,
     scene: Scene<'_>,
@@ -20,20 +23,44 @@ pub fn violation_text(
     start: u32,
     end: u32,
 ) -> Result<Text, AllocError>
-    requires { IsPath (problem_of (subject_of scene)) (record { start = start; items = path.now; end = end }) }
-    ensures { IfOk result (λ text. text ≡ violated_text (problem_of (subject_of scene.entry)) slack (record { start = start; items = path.now; end = end })) }
+    requires drawn { IsDrawn (subject_of scene) }
+    requires path { IsPath (problem_of (subject_of scene)) (record { start = start; items = path.now; end = end }) }
+    ensures { IfOk result (λ text. text ≡ path_text (subject_of scene.entry) slack (record { start = start; items = path.now; end = end })) }
 {
-    let problem = match scene {
-        Scene::Raw(problem) => problem,
-        Scene::Bare => unreachable!(),
-    };
-    let mut out = Vec::from_slice(alloc, b"violated")?;
-    put_whole(&mut out, slack)?;
-    out.push(b'\n')?;
-    put_start(&mut out, &problem.starts.as_slice()[start as usize])?;
-    put_arcs(&mut out, problem.items.as_slice(), path)?;
-    put_end(&mut out, &problem.ends.as_slice()[end as usize])?;
+    let mut out = Vec::new(alloc);
+    match scene {
+        Scene::Raw(problem) => put_raw_path(&mut out, problem, slack, path, start, end)?,
+        Scene::Design(layered, flat, all) => {
+            let route = Route {
+                start,
+                items: path,
+                end,
+            };
+            put_design_path(alloc, &mut out, layered, flat, all, slack, route)?;
+        }
+        Scene::Bare | Scene::Pins(_) => unreachable!(),
+    }
     Ok(Text::from_vec(out))
+}
+
+/// Adds the lines of a violated path of a raw problem.
+fn put_raw_path(
+    out: &mut Vec<u8>,
+    problem: &Problem,
+    slack: i64,
+    path: &[ItemId],
+    start: u32,
+    end: u32,
+) -> Result<(), AllocError>
+    requires { IsPath problem.now (record { start = start; items = path.now; end = end }) }
+    ensures { OnOk result (out.new.items ≡ out.old.items ++ violated_text problem.now slack (record { start = start; items = path.now; end = end })) }
+{
+    out.extend_from_slice(b"violated")?;
+    put_whole(out, slack)?;
+    out.push(b'\n')?;
+    put_start(out, &problem.starts.as_slice()[start as usize])?;
+    put_arcs(out, problem.items.as_slice(), path)?;
+    put_end(out, &problem.ends.as_slice()[end as usize])
 }
 
 /// Adds a line for each item of a path.
