@@ -8,21 +8,22 @@ use Rattle.cert_text.specs.declared.certs.Cert.{Cert}
 use Rattle.budget_report.specs.declared.causes.Cause.TheVariants.{Problem as Unsound, Cert as Uncertified}
 use Rattle.budget_report.specs.declared.statuses.Status.{Status}
 use Rattle.budget_report.specs.declared.statuses.Status.TheVariants.{Done, Words}
-use Rattle.budget_report.specs.Causes.{raw as of_raw}
-use Rattle.budget_top.specs.declared.outcomes.Answer.{Answer}
-use Rattle.budget_top.specs.Outcomes.{Refusal, Outcome, said_of, writes_of}
-use Rattle.budget_top.specs.Steps.{Course, ◌>>=◌, ◌>>◌, step}
-use Rattle.budget_top.specs.Inputs.{Seen, input, problems, certificates}
+use Rattle.budget_report.specs.Subjects.{raw as of_raw}
+use Rattle.budget_steps.specs.declared.outcomes.Answer.{Answer}
+use Rattle.budget_steps.specs.Outcomes.{Refusal, Outcome, said_of, writes_of}
+use Rattle.budget_steps.specs.Steps.{Course, ◌>>=◌, ◌>>◌, step}
+use Rattle.budget_steps.specs.Inputs.{Seen, input, unfaulted}
+use Rattle.budget_top.specs.RawFiles.{problems, certificates}
 use Rattle.budget_top.specs.Problems.{sound, measured, verdict, IsSoundness, IsVerdict}
 use Rattle.budget_top.specs.Words.{Asked, raw, prove}
 use Rattle.budget_top.specs.Jobs.{raw_job, prove_job, steps_of}
-use Rattle.budget_top.specs.Runs.{unfaulted}
-use Rattle.budget_top.proofs.Courses.{Alike, alike_then, alike_step}
-use Rattle.budget_top.proofs.FileLaws.{problems_are, certificates_are, input_alike}
+use Rattle.budget_steps.proofs.Courses.{Alike, alike_then, alike_step}
+use Rattle.budget_steps.proofs.FileLaws.{input_alike}
+use Rattle.budget_top.proofs.RawFileLaws.{problems_are, certificates_are}
 use Rattle.budget_top.proofs.Soundnesses.{soundness_sure, soundness_fits}
 use Rattle.budget_top.proofs.Measures.{one_measured, meets_done, measured_fits}
 use Rattle.budget_top.proofs.Verdicts.{verdict_sure}
-use Rattle.budget_top.proofs.JobLaws.{IsJob, SameStatus, after_input, after_step, last}
+use Rattle.budget_steps.proofs.JobLaws.{IsJob, SameStatus, after_input, after_step, last}
 
 -- ---- the last steps
 measured_alike : (p : Problem) → Alike SameStatus ⊥ (measured p) (measured p)
@@ -44,15 +45,15 @@ verdict_job p c =
 -- ---- the jobs
 sound_then : (p : Problem) (course : Course Answer) → IsJob (λ shelf. course) → IsJob (λ shelf. sound p >> course)
 sound_then p course next =
-    after_step (IsSoundness p) (of_raw p) (λ fault. Unsound fault) (λ _ shelf. course) (soundness_sure p) soundness_fits (λ _. next)
+    after_step (IsSoundness p) (of_raw p) (λ fault. Unsound fault) (λ _ shelf. course) (soundness_sure p) soundness_fits (λ _ _. next)
 
 raw_is : (problem : List ℕ) → IsJob (λ shelf. raw_job shelf problem)
-raw_is problem = after_input problems problem (λ p shelf. sound p >> measured p) problems_are (λ p. sound_then p (measured p) (measured_job p))
+raw_is problem = after_input problems problem (λ p shelf. sound p >> measured p) problems_are (λ p _. sound_then p (measured p) (measured_job p))
 
 prove_is : (problem cert : List ℕ) → IsJob (λ shelf. prove_job shelf problem cert)
 prove_is problem cert =
     after_input problems problem (λ p shelf. input shelf certificates cert >>= λ c. sound p >> verdict p c) problems_are
-    (λ p. after_input certificates cert (λ c shelf. sound p >> verdict p c) certificates_are (λ c. sound_then p (verdict p c) (verdict_job p c)))
+    (λ p _. after_input certificates cert (λ c shelf. sound p >> verdict p c) certificates_are (λ c _. sound_then p (verdict p c) (verdict_job p c)))
 
 pub job_is : (asked : Asked) → IsJob (λ shelf. steps_of shelf asked)
 job_is (raw problem) = raw_is problem
@@ -87,4 +88,4 @@ raw_alike problem files new before now =
     (λ p. sound p >> measured p)
     budgeted
     (input_alike problems problem problems_are files new before now)
-    (λ p. judged_alike p (Rose before now))
+    (λ p _. judged_alike p (Rose before now))

@@ -1,10 +1,8 @@
-pub mod Courses
-pub mod FileLaws
+pub mod RawFileLaws
 pub mod WritingLaws
 pub mod Soundnesses
 pub mod Measures
 pub mod Verdicts
 pub mod CertifiedPlans
-pub mod JobLaws
 pub mod JobCourses
 pub mod RunLaws

@@ -5,7 +5,7 @@ use Rattle.bud_base.specs.Paths.{Path, IsPath, slack, least_of, Meets}
 use Rattle.bud_base.specs.declared.problems.Problem.{Problem}
 use Rattle.budget_report.specs.declared.statuses.Status.{Status}
 use Rattle.budget_report.specs.declared.statuses.Status.TheVariants.{Done, Violated, Words}
-use Rattle.budget_top.specs.Outcomes.{Outcome, said_of}
+use Rattle.budget_steps.specs.Outcomes.{Outcome, said_of}
 use Rattle.budget_top.specs.Problems.{IsMeasured, measured}
 
 -- what the paths of a sound problem say

@@ -9,21 +9,21 @@ use Rattle.budget_report.specs.declared.statuses.Status.{Status}
 use Rattle.budget_report.specs.declared.statuses.Status.TheVariants.{Done, Violated, Words, Fault, Refused, Design, Limit, Certificate, Memory}
 use Rattle.budget_report.specs.Statuses.{code_of}
 use Rattle.budget_report.specs.Causes.{status_of}
-use Rattle.budget_top.specs.declared.outcomes.Said.{Said}
-use Rattle.budget_top.specs.declared.outcomes.Write.{Write}
-use Rattle.budget_top.specs.declared.outcomes.Answer.{Answer}
-use Rattle.budget_top.specs.declared.outcomes.Stop.{Stop}
-use Rattle.budget_top.specs.declared.outcomes.Stop.TheVariants.{Refused as Ended, NoMemory as Wanting}
-use Rattle.budget_top.specs.Outcomes.{Refusal, Outcome, said_of, writes_of}
-use Rattle.budget_top.specs.Steps.{Follows}
-use Rattle.budget_top.specs.Inputs.{Seen}
+use Rattle.budget_steps.specs.declared.outcomes.Said.{Said}
+use Rattle.budget_steps.specs.declared.outcomes.Write.{Write}
+use Rattle.budget_steps.specs.declared.outcomes.Answer.{Answer}
+use Rattle.budget_steps.specs.declared.outcomes.Stop.{Stop}
+use Rattle.budget_steps.specs.declared.outcomes.Stop.TheVariants.{Refused as Ended, NoMemory as Wanting}
+use Rattle.budget_steps.specs.Outcomes.{Refusal, Outcome, said_of, writes_of}
+use Rattle.budget_steps.specs.Steps.{Follows}
+use Rattle.budget_steps.specs.Inputs.{Seen, unfaulted}
 use Rattle.budget_top.specs.Words.{Asked, raw, prove}
 use Rattle.budget_top.specs.Jobs.{course}
 use Rattle.budget_top.specs.Writing.{AreWritten, ArePartlyWritten, IsKept}
-use Rattle.budget_top.specs.Runs.{Came, Broke, IsSaid, IsEnd, kept_said, answered, IsPut, IsFinished, IsRun, Ends, Breaks, IsCalled, HasCauses, unfaulted, CallsFor, HasBudgets}
-use Rattle.budget_top.proofs.Courses.{Within, SameEnd}
-use Rattle.budget_top.proofs.FileLaws.{IsDuring, rose_since}
-use Rattle.budget_top.proofs.JobLaws.{IsJob, SameStatus}
+use Rattle.budget_top.specs.Runs.{Came, Broke, IsSaid, IsEnd, kept_said, answered, IsPut, IsFinished, IsRun, Ends, Breaks, IsCalled, HasCauses, CallsFor, HasBudgets}
+use Rattle.budget_steps.proofs.Courses.{Within, SameEnd}
+use Rattle.budget_steps.proofs.FileLaws.{IsDuring, rose_since}
+use Rattle.budget_steps.proofs.JobLaws.{IsJob, SameStatus}
 use Rattle.budget_top.proofs.JobCourses.{job_is, job_quiet, IsDone, raw_alike}
 
 -- ---- numbers of statuses

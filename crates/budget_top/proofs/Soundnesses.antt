@@ -12,9 +12,9 @@ use Rattle.budget_report.specs.declared.statuses.Status.{Status}
 use Rattle.budget_report.specs.declared.statuses.Status.TheVariants.{Words, Design, Limit}
 use Rattle.budget_report.specs.declared.causes.Cause.TheVariants.{Problem as Unsound}
 use Rattle.budget_report.proofs.JoinsWithin.{IsCycle-within}
-use Rattle.budget_top.specs.Steps.{IsCause}
+use Rattle.budget_steps.specs.Steps.{IsCause}
 use Rattle.budget_top.specs.Problems.{IsSoundness}
-use Rattle.budget_top.proofs.Courses.{IsSure}
+use Rattle.budget_steps.proofs.Courses.{IsSure}
 
 -- the items of a cycle are the problem's
 pub fault_within : (p : Problem) (fault : ProblemFault) → IsCheckAnswer p (Err fault) → HasItems p fault

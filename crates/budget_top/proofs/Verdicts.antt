@@ -12,9 +12,9 @@ use Rattle.budget_report.specs.declared.statuses.Status.{Status}
 use Rattle.budget_report.specs.declared.statuses.Status.TheVariants.{Words}
 use Rattle.budget_report.specs.declared.causes.Cause.TheVariants.{Cert as Uncertified}
 use Rattle.budget_report.specs.Certificates.{IsPlace, IsNamed}
-use Rattle.budget_top.specs.declared.outcomes.Answer.{Answer}
+use Rattle.budget_steps.specs.declared.outcomes.Answer.{Answer}
 use Rattle.budget_top.specs.Problems.{IsVerdict}
-use Rattle.budget_top.proofs.Courses.{IsSure}
+use Rattle.budget_steps.proofs.Courses.{IsSure}
 
 -- what a fault names is the problem's
 place_named : (p : Problem) (cert : Cert) (place : CertPlace) → IsNegativeFlow p (plan_in cert) place → IsPlace p place

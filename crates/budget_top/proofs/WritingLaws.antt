@@ -4,12 +4,12 @@ use Rattle.std.proofs.lemmas.List.{drop_more}
 use Rattle.bud_shelf.specs.Outside.{Files, IsWritten, OthersStay, IsWriteAnswer}
 use Rattle.bud_shelf.specs.declared.shelves.ShelfFault.{ShelfFault}
 use Rattle.bud_shelf.specs.declared.shelves.ShelfFault.TheVariants.{Missing, Failed, TooLong, NoMemory as ShelfMemory}
-use Rattle.budget_top.specs.declared.outcomes.Write.{Write}
-use Rattle.budget_top.specs.declared.outcomes.Stop.{Stop}
-use Rattle.budget_top.specs.declared.outcomes.Stop.TheVariants.{Refused as Ended, NoMemory as Wanting}
-use Rattle.budget_top.specs.Inputs.{IsStopped}
+use Rattle.budget_steps.specs.declared.outcomes.Write.{Write}
+use Rattle.budget_steps.specs.declared.outcomes.Stop.{Stop}
+use Rattle.budget_steps.specs.declared.outcomes.Stop.TheVariants.{Refused as Ended, NoMemory as Wanting}
+use Rattle.budget_steps.specs.Inputs.{IsStopped}
 use Rattle.budget_top.specs.Writing.{AreWritten, ArePartlyWritten, IsKept}
-use Rattle.budget_top.proofs.FileLaws.{rose_since}
+use Rattle.budget_steps.proofs.FileLaws.{rose_since}
 
 -- what becomes of the rest of the files also becomes of all of them
 pub record GoesOn (old mid : Option Files) (writes rest : List Write) : Type 0 where

@@ -2,10 +2,11 @@
 use Rattle.std.specs.Prelude.{◌≡◌, ℕ, List, Option, Some, None, Result, Ok, Err}
 use Rattle.bud_shelf.specs.Outside.{Files}
 use Rattle.budget_report.specs.declared.causes.Cause.TheVariants.{Words}
-use Rattle.budget_report.specs.Causes.{bare}
-use Rattle.budget_top.specs.declared.outcomes.Answer.{Answer}
-use Rattle.budget_top.specs.Steps.{Course, ◌>>=◌, ◌>>◌}
-use Rattle.budget_top.specs.Inputs.{Seen, input, problems, certificates}
+use Rattle.budget_report.specs.Subjects.{bare}
+use Rattle.budget_steps.specs.declared.outcomes.Answer.{Answer}
+use Rattle.budget_steps.specs.Steps.{Course, ◌>>=◌, ◌>>◌}
+use Rattle.budget_steps.specs.Inputs.{Seen, input}
+use Rattle.budget_top.specs.RawFiles.{problems, certificates}
 use Rattle.budget_top.specs.Problems.{sound, measured, verdict}
 use Rattle.budget_top.specs.Words.{Asked, raw, prove}
 

@@ -1,6 +1,4 @@
-pub mod Outcomes
-pub mod Steps
-pub mod Inputs
+pub mod RawFiles
 pub mod Problems
 pub mod Words
 pub mod Jobs

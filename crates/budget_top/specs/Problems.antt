@@ -14,13 +14,13 @@ use Rattle.plan_cert.specs.declared.answers.CertFault.{CertFault}
 use Rattle.budget_report.specs.declared.statuses.Status.{Status}
 use Rattle.budget_report.specs.declared.statuses.Status.TheVariants.{Done, Violated}
 use Rattle.budget_report.specs.declared.causes.Cause.TheVariants.{Problem as Unsound, Cert as Uncertified}
-use Rattle.budget_report.specs.Causes.{raw}
+use Rattle.budget_report.specs.Subjects.{raw}
 use Rattle.budget_report.specs.Certificates.{holds_text}
 use Rattle.budget_report.specs.Violations.{meets_text, no_paths_text, violated_text}
-use Rattle.budget_top.specs.declared.outcomes.Answer.{Answer}
-use Rattle.budget_top.specs.declared.outcomes.Said.{Said}
-use Rattle.budget_top.specs.Outcomes.{done}
-use Rattle.budget_top.specs.Steps.{Course, step}
+use Rattle.budget_steps.specs.declared.outcomes.Answer.{Answer}
+use Rattle.budget_steps.specs.declared.outcomes.Said.{Said}
+use Rattle.budget_steps.specs.Outcomes.{done}
+use Rattle.budget_steps.specs.Steps.{Course, step}
 
 -- the problem is sound, or has this first fault
 abbrev pub IsSoundness : Problem → Result (Unit {0}) ProblemFault → Type 0

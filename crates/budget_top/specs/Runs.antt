@@ -10,12 +10,13 @@ use Rattle.bud_shelf.specs.declared.sinks.SinkFault.TheVariants.{Failed, NoMemor
 use Rattle.budget_report.specs.declared.statuses.Status.{Status}
 use Rattle.budget_report.specs.declared.statuses.Status.TheVariants.{Done, Violated, Words, Fault, Refused, Design, Limit, Certificate, Memory}
 use Rattle.budget_report.specs.Statuses.{code_of}
-use Rattle.budget_top.specs.declared.outcomes.Said.{Said}
-use Rattle.budget_top.specs.declared.outcomes.Answer.{Answer}
-use Rattle.budget_top.specs.declared.outcomes.Stop.{Stop}
-use Rattle.budget_top.specs.declared.outcomes.Stop.TheVariants.{Refused as Ended, NoMemory as Wanting}
-use Rattle.budget_top.specs.Outcomes.{Outcome, said_of, writes_of, memory_said}
-use Rattle.budget_top.specs.Inputs.{Seen, input, problems}
+use Rattle.budget_steps.specs.declared.outcomes.Said.{Said}
+use Rattle.budget_steps.specs.declared.outcomes.Answer.{Answer}
+use Rattle.budget_steps.specs.declared.outcomes.Stop.{Stop}
+use Rattle.budget_steps.specs.declared.outcomes.Stop.TheVariants.{Refused as Ended, NoMemory as Wanting}
+use Rattle.budget_steps.specs.Outcomes.{Outcome, said_of, writes_of, memory_said}
+use Rattle.budget_steps.specs.Inputs.{Seen, input, unfaulted}
+use Rattle.budget_top.specs.RawFiles.{problems}
 use Rattle.budget_top.specs.Words.{Asked, raw, prove}
 use Rattle.budget_top.specs.Jobs.{course}
 use Rattle.budget_top.specs.Writing.{AreWritten, ArePartlyWritten, unwritten, IsKept}
@@ -103,10 +104,6 @@ pub record HasCauses (job : Option Asked) (shelf : Seen (Option Files)) (out : S
   pub limit : number ≡ 6 → Ends job shelf out Limit
   pub certificate : number ≡ 7 → Ends job shelf out Certificate
   pub range : number ≤ 8
-
--- what is told before any fault
-abbrev pub unfaulted : Files → Seen (Option Files)
-unfaulted files = record { old = Some files; new = Some files; before = 0; now = 0 }
 
 -- a shelf that tells its files calls for this status
 abbrev pub CallsFor : Option Asked → Option Files → Status → Type 0

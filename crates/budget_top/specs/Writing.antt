@@ -3,13 +3,13 @@ use Rattle.std.specs.Prelude.{◌≡◌, ℕ, List, [], ◌∷◌, ◌++◌, Opt
 use Rattle.bud_shelf.specs.Outside.{Files, IsWritten, OthersStay}
 use Rattle.bud_shelf.specs.Outside.{Rose}
 use Rattle.budget_report.specs.declared.causes.Cause.TheVariants.{Shelf}
-use Rattle.budget_report.specs.Causes.{bare}
-use Rattle.budget_top.specs.declared.outcomes.Said.{Said}
-use Rattle.budget_top.specs.declared.outcomes.Write.{Write}
-use Rattle.budget_top.specs.declared.outcomes.Stop.{Stop}
-use Rattle.budget_top.specs.declared.outcomes.Stop.TheVariants.{Refused, NoMemory}
-use Rattle.budget_top.specs.Outcomes.{refusal_said}
-use Rattle.budget_top.specs.Inputs.{Seen}
+use Rattle.budget_report.specs.Subjects.{bare}
+use Rattle.budget_steps.specs.declared.outcomes.Said.{Said}
+use Rattle.budget_steps.specs.declared.outcomes.Write.{Write}
+use Rattle.budget_steps.specs.declared.outcomes.Stop.{Stop}
+use Rattle.budget_steps.specs.declared.outcomes.Stop.TheVariants.{Refused, NoMemory}
+use Rattle.budget_steps.specs.Outcomes.{refusal_said}
+use Rattle.budget_steps.specs.Inputs.{Seen}
 
 -- all are written whole, and no other file changes
 abbrev pub AreWritten : Option Files → Option Files → List Write → Type 0

@@ -1,14 +1,13 @@
 //! The end of a run: the files that a job writes, in order, and then what it prints.
 ghost use Rattle.std.specs.Prelude.{◌≡◌, ◌≤◌};
-ghost use Rattle.budget_top.specs.Inputs.{seen};
-ghost use Rattle.budget_top.specs.Outcomes.{says};
+ghost use Rattle.budget_steps.specs.Inputs.{seen};
+ghost use Rattle.budget_steps.specs.Outcomes.{says};
 ghost use Rattle.budget_top.specs.Runs.{IsEnd, IsFinished, IsPut, said_or_memory, stop_said};
 ghost use Rattle.budget_top.specs.Writing.{IsKept};
 
-use crate::inputs::stopped;
-use crate::outcomes::{Answer, Said, Stop, Write};
 use bud_shelf::{Shelf, Sink, SinkFault};
 use budget_report::{Cause, Status};
+use budget_steps::{Answer, Said, Stop, Write, stopped};
 use std::alloc::{AllocError, Global};
 
 /// Writes the files of an answer and puts its text, or that of a refusal, and answers the number of the status.

@@ -1,15 +1,15 @@
 //! The jobs, each as its steps in order.
 ghost use Rattle.std.specs.Prelude.{◌≡◌, ◌≤◌};
-ghost use Rattle.budget_top.specs.Inputs.{seen};
+ghost use Rattle.budget_steps.specs.Inputs.{seen};
 ghost use Rattle.budget_top.specs.Jobs.{raw_job, prove_job, steps_of};
-ghost use Rattle.budget_top.specs.Steps.{Follows};
+ghost use Rattle.budget_steps.specs.Steps.{Follows};
 ghost use Rattle.budget_top.specs.Words.{asked};
 
-use crate::inputs::{CertText, ProblemText, load};
-use crate::outcomes::{Answer, Stop};
 use crate::problems::{measured, sound, verdict};
+use crate::raw_files::{CertText, ProblemText};
 use crate::words::Job;
 use bud_shelf::Shelf;
+use budget_steps::{Answer, Stop, load};
 use std::alloc::Global;
 
 /// Does a job.

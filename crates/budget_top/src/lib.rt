@@ -2,11 +2,10 @@
 #![tactic(auto)]
 
 mod finish;
-mod inputs;
 mod jobs;
-mod outcomes;
 mod plans;
 mod problems;
+mod raw_files;
 mod run;
 #[cfg(test)]
 mod tests;

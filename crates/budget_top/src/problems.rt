@@ -5,13 +5,13 @@ ghost use Rattle.bud_base.specs.Soundness.{IsListable, IsSound};
 ghost use Rattle.bud_plans.specs.Plans.{HasPlanNumbers};
 ghost use Rattle.cert_text.specs.Certs.{plan_in};
 ghost use Rattle.plan_cert.specs.Raw.{IsRawFault};
-ghost use Rattle.budget_top.specs.Steps.{Follows};
+ghost use Rattle.budget_steps.specs.Steps.{Follows};
 ghost use Rattle.budget_top.specs.Problems.{sound, measured, verdict, IsFirstLine};
 
-use crate::outcomes::{Answer, Said, Stop, refused};
 use crate::plans::best_text;
 use bud_base::{Listed, Problem, Text};
 use budget_report::{Cause, Scene, Status, holds_text, meets_text, no_paths_text, violation_text};
+use budget_steps::{Answer, Said, Stop, refused};
 use least_check::{Least, LeastCheck};
 use plan_cert::{Cert, CertAnswer, Sums, check_raw};
 use std::alloc::Global;

@@ -1,18 +1,18 @@
 ghost use Rattle.std.specs.Prelude.{◌≡◌, ◌≤◌, map, string_bytes};
 ghost use Rattle.budget_report.specs.declared.statuses.Status.{Status};
 ghost use Rattle.budget_report.specs.declared.statuses.Status.TheVariants.{Done};
-ghost use Rattle.budget_top.specs.Inputs.{seen};
+ghost use Rattle.budget_steps.specs.Inputs.{seen};
 ghost use Rattle.budget_top.specs.Jobs.{course};
-ghost use Rattle.budget_top.specs.Steps.{Follows};
+ghost use Rattle.budget_steps.specs.Steps.{Follows};
 ghost use Rattle.budget_top.specs.Words.{job_of};
 ghost use Rattle.budget_top.specs.Runs.{IsRun, HasCauses, CallsFor, HasBudgets, IsCalled};
 
 use crate::finish::finish;
 use crate::jobs::answer;
-use crate::outcomes::{Answer, Stop, refused};
 use crate::words::asked_job;
 use bud_shelf::{Shelf, Sink};
 use budget_report::{Cause, Scene};
+use budget_steps::{Answer, Stop, refused};
 use std::alloc::Global;
 
 /// Does the job that the words behind the program's name ask for, and answers the status, from 0 to 8.

@@ -1,8 +1,8 @@
 use crate::finish::finish;
-use crate::outcomes::{Answer, Write};
 use crate::run_budget;
 use bud_base::{Listed, Text};
 use bud_shelf::{LONGEST_FILE, MemShelf, MemSink, SafeShelf, SafeSink};
+use budget_steps::{Answer, Write};
 use std::alloc::{AllocError, Global};
 use std::test::Fail;
 

@@ -1,10 +1,11 @@
 use Rattle.std.proofs.Common.{Err, arith, refl}
-use Rattle.budget_top.specs.Inputs.{seen, input, problems, certificates}
+use Rattle.budget_steps.specs.Inputs.{seen, input}
+use Rattle.budget_top.specs.RawFiles.{problems, certificates}
 use Rattle.budget_top.specs.Jobs.{prove_job}
 use Rattle.budget_top.specs.Problems.{sound, verdict}
-use Rattle.budget_top.specs.Steps.{◌>>=◌, ◌>>◌}
-use Rattle.budget_top.proofs.Courses.{follows_first, follows_next, follows_exit}
-use Rattle.budget_top.proofs.FileLaws.{IsDuring, reads_first, reads_next}
+use Rattle.budget_steps.specs.Steps.{◌>>=◌, ◌>>◌}
+use Rattle.budget_steps.proofs.Courses.{follows_first, follows_next, follows_exit}
+use Rattle.budget_steps.proofs.FileLaws.{IsDuring, reads_first, reads_next}
 use Rattle.budget_top.proofs.jobs.prove.Goals as goal
 
 pub returns-in_err-cert-clause-course : goal.returns-in_err-cert-clause-course

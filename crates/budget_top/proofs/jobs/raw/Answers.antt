@@ -1,9 +1,10 @@
 use Rattle.std.proofs.Common.{Err}
-use Rattle.budget_top.specs.Inputs.{seen, input, problems}
+use Rattle.budget_steps.specs.Inputs.{seen, input}
+use Rattle.budget_top.specs.RawFiles.{problems}
 use Rattle.budget_top.specs.Jobs.{raw_job}
 use Rattle.budget_top.specs.Problems.{sound, measured}
-use Rattle.budget_top.specs.Steps.{◌>>◌}
-use Rattle.budget_top.proofs.Courses.{follows_first, follows_next, follows_exit}
+use Rattle.budget_steps.specs.Steps.{◌>>◌}
+use Rattle.budget_steps.proofs.Courses.{follows_first, follows_next, follows_exit}
 use Rattle.budget_top.proofs.jobs.raw.Goals as goal
 
 pub returns-in_err-sound-clause-course : goal.returns-in_err-sound-clause-course

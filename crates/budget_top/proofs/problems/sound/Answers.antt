@@ -1,7 +1,7 @@
-use Rattle.budget_report.specs.Causes.{raw}
+use Rattle.budget_report.specs.Subjects.{raw}
 use Rattle.budget_report.specs.declared.causes.Cause.TheVariants.{Problem as Unsound}
 use Rattle.budget_top.specs.Problems.{IsSoundness}
-use Rattle.budget_top.proofs.Courses.{step_refused}
+use Rattle.budget_steps.proofs.Courses.{step_refused}
 use Rattle.budget_top.proofs.Soundnesses.{fault_within}
 use Rattle.budget_top.proofs.problems.sound.Goals as goal
 

@@ -1,7 +1,7 @@
-use Rattle.budget_report.specs.Causes.{raw}
+use Rattle.budget_report.specs.Subjects.{raw}
 use Rattle.budget_report.specs.declared.causes.Cause.TheVariants.{Cert as Uncertified}
 use Rattle.budget_top.specs.Problems.{IsVerdict}
-use Rattle.budget_top.proofs.Courses.{step_refused}
+use Rattle.budget_steps.proofs.Courses.{step_refused}
 use Rattle.budget_top.proofs.problems.verdict.Goals as goal
 
 pub returns : goal.returns

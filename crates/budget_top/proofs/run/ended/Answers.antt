@@ -1,12 +1,12 @@
 use Rattle.std.proofs.Common.{◌≡◌, Option, Err, sym, subst, refl}
-use Rattle.budget_report.specs.Causes.{bare}
+use Rattle.budget_report.specs.Subjects.{bare}
 use Rattle.budget_report.specs.declared.causes.Cause.TheVariants.{Words}
-use Rattle.budget_top.specs.declared.outcomes.Answer.{Answer}
-use Rattle.budget_top.specs.Inputs.{seen}
+use Rattle.budget_steps.specs.declared.outcomes.Answer.{Answer}
+use Rattle.budget_steps.specs.Inputs.{seen}
 use Rattle.budget_top.specs.Jobs.{course, misfit}
-use Rattle.budget_top.specs.Steps.{Follows}
+use Rattle.budget_steps.specs.Steps.{Follows}
 use Rattle.budget_top.specs.Words.{Asked}
-use Rattle.budget_top.proofs.Courses.{follows_refused}
+use Rattle.budget_steps.proofs.Courses.{follows_refused}
 use Rattle.budget_top.proofs.run.ended.Goals as goal
 
 pub returns-in-None-clause-course : goal.returns-in-None-clause-course

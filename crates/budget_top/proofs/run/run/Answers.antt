@@ -1,5 +1,5 @@
 use Rattle.std.proofs.Common.{map, string_bytes}
-use Rattle.budget_top.specs.Inputs.{seen}
+use Rattle.budget_steps.specs.Inputs.{seen}
 use Rattle.budget_top.specs.Words.{job_of}
 use Rattle.budget_top.proofs.RunLaws.{run_from}
 use Rattle.budget_top.proofs.run.run.Goals as goal

@@ -1,6 +1,6 @@
-use Rattle.budget_top.specs.Inputs.{seen}
-use Rattle.budget_top.proofs.FileLaws.{file_stopped}
-use Rattle.budget_top.proofs.inputs.read_file.Goals as goal
+use Rattle.budget_steps.specs.Inputs.{seen}
+use Rattle.budget_steps.proofs.FileLaws.{file_stopped}
+use Rattle.budget_steps.proofs.inputs.read_file.Goals as goal
 
 pub returns-in-Err-clause-file : goal.returns-in-Err-clause-file
 returns-in-Err-clause-file g c =

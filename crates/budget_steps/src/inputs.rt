@@ -1,18 +1,14 @@
 ghost use Rattle.std.specs.Prelude.{◌≡◌, ◌≤◌, ℕ, List, IfOk, length};
-ghost use Rattle.bud_base.specs.Soundness.{IsListable};
-ghost use Rattle.bud_plans.specs.Plans.{HasPlanNumbers};
 ghost use Rattle.bud_shelf.specs.Outside.{longest_file};
-ghost use Rattle.cert_text.specs.Certs.{plan_in};
-ghost use Rattle.budget_report.specs.Causes.{bare, Concerns};
-ghost use Rattle.budget_top.specs.Steps.{Follows, step};
-ghost use Rattle.budget_top.specs.Inputs.{Grammar, IsStopped, seen, file, input, problems, certificates};
+ghost use Rattle.budget_report.specs.Subjects.{bare};
+ghost use Rattle.budget_report.specs.Causes.{Concerns};
+ghost use Rattle.budget_steps.specs.Steps.{Follows, step};
+ghost use Rattle.budget_steps.specs.Inputs.{Grammar, IsStopped, seen, file, input};
 
 use crate::outcomes::{Stop, refused};
-use bud_base::{Problem, Text, TextFault};
+use bud_base::Text;
 use bud_shelf::{Shelf, ShelfFault};
 use budget_report::{Cause, Scene};
-use cert_text::{Cert, read_cert};
-use problem_text::read_problem;
 use std::alloc::{AllocError, Global};
 
 /// A kind of input file.
@@ -35,48 +31,6 @@ pub trait Input {
     fn cause(name: Text, fault: Self::Fault) -> Cause
         ensures cause { result ≡ grammar.cause name fault }
         ensures concerns { Concerns bare result };
-}
-
-/// The text of a raw problem.
-pub struct ProblemText;
-
-impl Input for ProblemText {
-    type Value = Problem;
-
-    type Fault = TextFault;
-
-    ghost grammar = { problems };
-
-    ghost is_value = { IsListable };
-
-    fn read(alloc: Global, text: &[u8]) -> Result<Problem, TextFault> {
-        read_problem(alloc, text)
-    }
-
-    fn cause(name: Text, fault: TextFault) -> Cause {
-        Cause::Text(name, fault)
-    }
-}
-
-/// The text of a certificate.
-pub struct CertText;
-
-impl Input for CertText {
-    type Value = Cert;
-
-    type Fault = TextFault;
-
-    ghost grammar = { certificates };
-
-    ghost is_value = { λ cert. HasPlanNumbers (plan_in cert) };
-
-    fn read(alloc: Global, text: &[u8]) -> Result<Cert, TextFault> {
-        read_cert(alloc, text)
-    }
-
-    fn cause(name: Text, fault: TextFault) -> Cause {
-        Cause::Text(name, fault)
-    }
 }
 
 /// The value that a file of the shelf reads as.

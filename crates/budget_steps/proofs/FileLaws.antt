@@ -3,29 +3,20 @@ use Rattle.std.proofs.Common.{◌≡◌, ◌⊎◌, ℕ, ◌<◌, ◌≤◌, Lis
 use Rattle.std.specs.Option.{option_map}
 use Rattle.std.specs.FinMap.{get}
 use Rattle.std.proofs.lemmas.Option.{same_Some}
-use Rattle.line_text.specs.Parts.{rows_of}
-use Rattle.bud_base.specs.declared.problems.Problem.{Problem}
-use Rattle.bud_base.specs.declared.texts.TextFault.{TextFault}
-use Rattle.bud_base.specs.declared.texts.TextFault.TheVariants.{Syntax, Value as OutOfRange, NoMemory as TextMemory}
 use Rattle.bud_shelf.specs.Outside.{longest_file, Files, Rose, IsMissing, IsReadAnswer}
 use Rattle.bud_shelf.specs.declared.shelves.ShelfFault.{ShelfFault}
 use Rattle.bud_shelf.specs.declared.shelves.ShelfFault.TheVariants.{Missing, Failed, TooLong, NoMemory as ShelfMemory}
-use Rattle.budget_top.specs.declared.outcomes.Stop.{Stop}
+use Rattle.budget_steps.specs.declared.outcomes.Stop.{Stop}
 use Rattle.budget_report.specs.declared.causes.Cause.{Cause}
-use Rattle.budget_report.specs.declared.causes.Cause.TheVariants.{Shelf, Length, Text}
+use Rattle.budget_report.specs.declared.causes.Cause.TheVariants.{Shelf, Length}
 use Rattle.budget_report.specs.declared.statuses.Status.{Status}
-use Rattle.budget_report.specs.declared.statuses.Status.TheVariants.{Fault, Refused, Limit, Words}
-use Rattle.budget_report.specs.Causes.{bare, status_of, text_status}
-use Rattle.cert_text.specs.declared.certs.Cert.{Cert}
-use Rattle.cert_text.specs.Texts.{IsReadAnswer as IsCertAnswer}
-use Rattle.cert_text.proofs.CertificateLaws.{answer_reads as cert_reads, one_reading as one_cert}
-use Rattle.problem_text.specs.Problems.{IsReadAnswer as IsProblemAnswer}
-use Rattle.problem_text.proofs.ProblemLaws.{answer_reads as problem_reads, one_reading as one_problem}
-use Rattle.budget_top.specs.Outcomes.{Refusal}
-use Rattle.budget_top.specs.Steps.{Course, ◌>>=◌, IsCause, step, Follows}
-use Rattle.budget_top.specs.Inputs.{Seen, IsWhole, IsOut, IsUnread, IsStopped, file, Grammar, input, problems, certificates}
-use Rattle.budget_top.specs.Runs.{unfaulted}
-use Rattle.budget_top.proofs.Courses.{Within, within_then, follows_refused, follows_within, follows_first, follows_next, Alike, alike_then, alike_step, IsSure}
+use Rattle.budget_report.specs.declared.statuses.Status.TheVariants.{Fault, Limit, Words}
+use Rattle.budget_report.specs.Causes.{status_of}
+use Rattle.budget_report.specs.Subjects.{bare}
+use Rattle.budget_steps.specs.Outcomes.{Refusal}
+use Rattle.budget_steps.specs.Steps.{Course, ◌>>=◌, IsCause, step, Follows}
+use Rattle.budget_steps.specs.Inputs.{Seen, IsWhole, IsOut, IsUnread, IsStopped, file, Grammar, input, unfaulted}
+use Rattle.budget_steps.proofs.Courses.{Within, within_then, follows_refused, follows_within, follows_first, follows_next, Alike, alike_then, alike_step, IsSure}
 
 -- ---- counts that go on
 -- the files are the same, and the counts of the first lie within those of the second
@@ -65,7 +56,7 @@ input_during grammar name inner outer during =
     within_then (file inner name) (file outer name) (λ bytes. step (grammar.answers bytes) bare (grammar.cause name))
     (λ bytes. step (grammar.answers bytes) bare (grammar.cause name))
     (file_during inner outer name during)
-    (λ bytes r came. came)
+    (λ bytes _ r came. came)
 
 -- ---- functions that read
 -- the counts up to the end of the job
@@ -165,7 +156,7 @@ input_alike grammar name one files new before now =
     (λ bytes. step (grammar.answers bytes) bare (grammar.cause name))
     (λ bytes. step (grammar.answers bytes) bare (grammar.cause name))
     (file_alike files new before now name)
-    (λ bytes. alike_step ◌≡◌ (Rose before now) (grammar.answers bytes) bare (grammar.cause name) (one.sure name bytes))
+    (λ bytes _. alike_step ◌≡◌ (Rose before now) (grammar.answers bytes) bare (grammar.cause name) (one.sure name bytes))
 
 unread_fits : (shelf : Seen (Option Files)) (name : List ℕ) (cause : Cause) → IsUnread shelf name cause → status_of cause ≡ Words → ⊥
 unread_fits shelf name (Shelf other) u e = cc
@@ -177,44 +168,3 @@ pub input_fits : {V F : Type 0} (grammar : Grammar V F) (name : List ℕ) → Is
     → status_of r.cause ≡ Words → ⊥
 input_fits grammar name one shelf r (inl unread) e = unread_fits shelf name r.cause unread.1 e
 input_fits grammar name one shelf r (inr read) e = one.fits name read.1.1.0 (sym (ap (λ (x : Refusal). status_of x.cause) read.1.1.1.1.1) ∙ e)
-
--- ---- the grammars
-refused_text : (fault : TextFault) → IsCause (text_status fault) → text_status fault ≡ Refused
-refused_text (Syntax at) is = refl
-refused_text (OutOfRange at) is = refl
-refused_text TextMemory is = absurd is
-
-fitting_text : (fault : TextFault) → text_status fault ≡ Words → ⊥
-fitting_text (Syntax at) e = cc
-fitting_text (OutOfRange at) e = cc
-fitting_text TextMemory e = cc
-
-problem_apart : (bytes : List ℕ) (p : Problem) (fault : TextFault) → IsCause (text_status fault) → IsProblemAnswer bytes (Ok p) → IsProblemAnswer bytes (Err fault) → ⊥
-problem_apart bytes p (Syntax at) is reads refused = refused p None reads
-problem_apart bytes p (OutOfRange at) is reads refused = let e = problem_reads bytes p (Err (OutOfRange at)) refused reads in cc
-problem_apart bytes p TextMemory is reads refused = absurd is
-
-pub problems_are : IsGrammar problems
-problems_are = record {
-  sure = λ name bytes. record {
-    one = λ a b first second. (one_problem (rows_of bytes) a b None None first second).0;
-    apart = problem_apart bytes;
-    status = λ f g is is' x y. refused_text f is ∙ sym (refused_text g is');
-  };
-  fits = λ name fault e. fitting_text fault e;
-}
-
-cert_apart : (bytes : List ℕ) (c : Cert) (fault : TextFault) → IsCause (text_status fault) → IsCertAnswer bytes (Ok c) → IsCertAnswer bytes (Err fault) → ⊥
-cert_apart bytes c (Syntax at) is reads refused = refused c None reads
-cert_apart bytes c (OutOfRange at) is reads refused = let e = cert_reads bytes c (Err (OutOfRange at)) refused reads in cc
-cert_apart bytes c TextMemory is reads refused = absurd is
-
-pub certificates_are : IsGrammar certificates
-certificates_are = record {
-  sure = λ name bytes. record {
-    one = λ a b first second. (one_cert (rows_of bytes) a b None None first second).0;
-    apart = cert_apart bytes;
-    status = λ f g is is' x y. refused_text f is ∙ sym (refused_text g is');
-  };
-  fits = λ name fault e. fitting_text fault e;
-}

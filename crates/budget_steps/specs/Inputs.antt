@@ -1,19 +1,14 @@
 -- Input files: their bytes, and the values that these read as.
-use Rattle.std.specs.Prelude.{◌≡◌, ◌≤◌, ◌<◌, ◌⊎◌, ℕ, List, length, Option, Result, Ok, Err}
-use Rattle.bud_base.specs.declared.problems.Problem.{Problem}
-use Rattle.bud_base.specs.declared.texts.TextFault.{TextFault}
+use Rattle.std.specs.Prelude.{◌≡◌, ◌≤◌, ◌<◌, ◌⊎◌, ℕ, List, length, Option, Some, Result, Ok, Err}
 use Rattle.bud_shelf.specs.Outside.{longest_file, Files, IsFile, HasLength, IsMissing, Rose}
 use Rattle.budget_report.specs.declared.causes.Cause.{Cause}
-use Rattle.budget_report.specs.declared.causes.Cause.TheVariants.{Words, Shelf, Sink, Length, Text, Problem as Unsound, Cert as Uncertified}
-use Rattle.budget_report.specs.Causes.{Subject, bare}
-use Rattle.cert_text.specs.Texts.{IsReadAnswer as IsCertAnswer}
-use Rattle.cert_text.specs.declared.certs.Cert.{Cert}
-use Rattle.problem_text.specs.Problems.{IsReadAnswer as IsProblemAnswer}
+use Rattle.budget_report.specs.declared.causes.Cause.TheVariants.{Shelf, Length}
+use Rattle.budget_report.specs.Subjects.{bare}
 use Rattle.bud_shelf.specs.declared.shelves.ShelfFault.{ShelfFault}
 use Rattle.bud_shelf.specs.declared.shelves.ShelfFault.TheVariants.{Missing, Failed, TooLong, NoMemory}
-use Rattle.budget_top.specs.declared.outcomes.Stop.{Stop}
-use Rattle.budget_top.specs.declared.outcomes.Stop.TheVariants.{NoMemory as Wanting}
-use Rattle.budget_top.specs.Steps.{Course, ◌>>=◌, step, IsRefused}
+use Rattle.budget_steps.specs.declared.outcomes.Stop.{Stop}
+use Rattle.budget_steps.specs.declared.outcomes.Stop.TheVariants.{NoMemory as Wanting}
+use Rattle.budget_steps.specs.Steps.{Course, ◌>>=◌, step, IsRefused}
 
 -- what a shelf or a sink tells, before and after, and its counts of faults
 pub record Seen (A : Type 0) : Type 0 where
@@ -60,14 +55,16 @@ pub record Grammar (V F : Type 0) : Type 1 where
   pub answers : List ℕ → Result V F → Type 0
   pub cause : List ℕ → F → Cause
 
+-- some bytes, no more than a shelf reads, read as the value
+abbrev pub IsRead : {V F : Type 0} → Grammar V F → V → Type 0
+IsRead grammar v = (bytes : List ℕ) × ((length bytes ≤ longest_file) × grammar.answers bytes (Ok v))
+
 -- the value that a file reads as
 abbrev pub input : {V F : Type 0} → Seen (Option Files) → Grammar V F → List ℕ → Course V
 input shelf grammar name = do
   bytes ← file shelf name
   step (grammar.answers bytes) bare (grammar.cause name)
 
-abbrev pub problems : Grammar Problem TextFault
-problems = record { answers = IsProblemAnswer; cause = λ name fault. Text name fault }
-
-abbrev pub certificates : Grammar Cert TextFault
-certificates = record { answers = IsCertAnswer; cause = λ name fault. Text name fault }
+-- what is told before any fault
+abbrev pub unfaulted : Files → Seen (Option Files)
+unfaulted files = record { old = Some files; new = Some files; before = 0; now = 0 }

@@ -1,9 +1,9 @@
 use Rattle.std.proofs.Common.{◌≡◌, ℕ, List, ap, ◌∙◌, subst}
-use Rattle.budget_report.specs.Causes.{bare}
+use Rattle.budget_report.specs.Subjects.{bare}
 use Rattle.budget_report.specs.declared.causes.Cause.{Cause}
-use Rattle.budget_top.specs.Steps.{IsRefused}
-use Rattle.budget_top.proofs.Courses.{step_refused}
-use Rattle.budget_top.proofs.inputs.read_text.Goals as goal
+use Rattle.budget_steps.specs.Steps.{IsRefused}
+use Rattle.budget_steps.proofs.Courses.{step_refused}
+use Rattle.budget_steps.proofs.inputs.read_text.Goals as goal
 
 pub returns-in_ok-name-in-Err-clause-reading : goal.returns-in_ok-name-in-Err-clause-reading
 returns-in_ok-name-in-Err-clause-reading g c =

@@ -3,11 +3,12 @@ use Rattle.std.specs.Prelude.{◌≡◌, ◌⊎◌, Result, Ok, Err}
 use Rattle.budget_report.specs.declared.causes.Cause.{Cause}
 use Rattle.budget_report.specs.declared.statuses.Status.{Status}
 use Rattle.budget_report.specs.declared.statuses.Status.TheVariants.{Done, Violated, Words, Fault, Refused, Design, Limit, Certificate, Memory}
-use Rattle.budget_report.specs.Causes.{Subject, status_of}
-use Rattle.budget_top.specs.declared.outcomes.Said.{Said}
-use Rattle.budget_top.specs.declared.outcomes.Stop.{Stop}
-use Rattle.budget_top.specs.declared.outcomes.Stop.TheVariants.{Refused as Ended, NoMemory}
-use Rattle.budget_top.specs.Outcomes.{Refusal, refusal_said}
+use Rattle.budget_report.specs.Causes.{status_of}
+use Rattle.budget_report.specs.Subjects.{Subject}
+use Rattle.budget_steps.specs.declared.outcomes.Said.{Said}
+use Rattle.budget_steps.specs.declared.outcomes.Stop.{Stop}
+use Rattle.budget_steps.specs.declared.outcomes.Stop.TheVariants.{Refused as Ended, NoMemory}
+use Rattle.budget_steps.specs.Outcomes.{Refusal, refusal_said}
 
 infixl 10 ◌>>=◌
 infixl 10 ◌>>◌

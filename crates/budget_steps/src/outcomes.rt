@@ -1,8 +1,9 @@
 ghost use Rattle.std.specs.Prelude.{◌≡◌};
-ghost use Rattle.budget_report.specs.Causes.{subject_of, Concerns};
-ghost use Rattle.budget_top.specs.declared.outcomes.Stop.TheVariants.{NoMemory};
-ghost use Rattle.budget_top.specs.Outcomes.{done};
-ghost use Rattle.budget_top.specs.Steps.{IsRefused};
+ghost use Rattle.budget_report.specs.Subjects.{subject_of};
+ghost use Rattle.budget_report.specs.Causes.{Concerns};
+ghost use Rattle.budget_steps.specs.declared.outcomes.Stop.TheVariants.{NoMemory};
+ghost use Rattle.budget_steps.specs.Outcomes.{done};
+ghost use Rattle.budget_steps.specs.Steps.{IsRefused};
 
 use bud_base::{Listed, Text};
 use budget_report::{Cause, Scene, Status, fault_text};
@@ -75,4 +76,12 @@ pub fn refused(alloc: Global, cause: &Cause, scene: Scene<'_>) -> Stop
             Err(_) => Stop::NoMemory,
         },
     }
+}
+
+/// The same for a cause that is given up.
+pub fn refused_by(alloc: Global, cause: Cause, scene: Scene<'_>) -> Stop
+    requires { Concerns (subject_of scene) cause }
+    ensures { IsRefused (record { subject = subject_of scene.entry; cause = cause }) result }
+{
+    refused(alloc, &cause, scene)
 }

@@ -3,10 +3,11 @@ use Rattle.std.specs.Prelude.{ℕ, List, [], Result, Ok, Err}
 use Rattle.budget_report.specs.declared.causes.Cause.{Cause}
 use Rattle.budget_report.specs.declared.statuses.Status.{Status}
 use Rattle.budget_report.specs.declared.statuses.Status.TheVariants.{Done, Memory}
-use Rattle.budget_report.specs.Causes.{Subject, status_of, text_of, memory_text}
-use Rattle.budget_top.specs.declared.outcomes.Said.{Said}
-use Rattle.budget_top.specs.declared.outcomes.Write.{Write}
-use Rattle.budget_top.specs.declared.outcomes.Answer.{Answer}
+use Rattle.budget_report.specs.Causes.{status_of, text_of, memory_text}
+use Rattle.budget_report.specs.Subjects.{Subject}
+use Rattle.budget_steps.specs.declared.outcomes.Said.{Said}
+use Rattle.budget_steps.specs.declared.outcomes.Write.{Write}
+use Rattle.budget_steps.specs.declared.outcomes.Answer.{Answer}
 
 -- a cause, and what it speaks of
 pub record Refusal : Type 0 where

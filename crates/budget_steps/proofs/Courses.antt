@@ -3,22 +3,23 @@ use Rattle.std.proofs.Common.{◌≡◌, ◌⊎◌, Result, Ok, Err, ap, sym, �
 use Rattle.std.specs.Result.{IsErrAnd}
 use Rattle.budget_report.specs.declared.causes.Cause.{Cause}
 use Rattle.budget_report.specs.declared.statuses.Status.{Status}
-use Rattle.budget_report.specs.Causes.{Subject, status_of}
-use Rattle.budget_top.specs.declared.outcomes.Stop.{Stop}
-use Rattle.budget_top.specs.declared.outcomes.Stop.TheVariants.{Refused as Ended, NoMemory}
-use Rattle.budget_top.specs.Outcomes.{Refusal}
-use Rattle.budget_top.specs.Steps.{Course, ◌>>=◌, IsCause, step, IsRefused, Follows}
+use Rattle.budget_report.specs.Causes.{status_of}
+use Rattle.budget_report.specs.Subjects.{Subject}
+use Rattle.budget_steps.specs.declared.outcomes.Stop.{Stop}
+use Rattle.budget_steps.specs.declared.outcomes.Stop.TheVariants.{Refused as Ended, NoMemory}
+use Rattle.budget_steps.specs.Outcomes.{Refusal}
+use Rattle.budget_steps.specs.Steps.{Course, ◌>>=◌, IsCause, step, IsRefused, Follows}
 
 -- ---- a course within another
 -- what may come of the one may come of the other
 abbrev pub Within : {A : Type 0} → Course A → Course A → Type 0
 Within {A} w v = (r : Result A Refusal) → w r → v r
 
-pub within_then : {A B : Type 0} (w v : Course A) (f g : A → Course B) → Within w v → ((a : A) → Within (f a) (g a)) → Within (w >>= f) (v >>= g)
-within_then w v f g first next (Ok b) came = (came.0, (first (Ok came.0) came.1.0, next came.0 (Ok b) came.1.1))
+pub within_then : {A B : Type 0} (w v : Course A) (f g : A → Course B) → Within w v → ((a : A) → w (Ok a) → Within (f a) (g a)) → Within (w >>= f) (v >>= g)
+within_then w v f g first next (Ok b) came = (came.0, (first (Ok came.0) came.1.0, next came.0 came.1.0 (Ok b) came.1.1))
 within_then w v f g first next (Err r) came = elim came [
   | inl early ↦ inl (first (Err r) early)
-  | inr later ↦ inr (later.0, (first (Ok later.0) later.1.0, next later.0 (Err r) later.1.1))
+  | inr later ↦ inr (later.0, (first (Ok later.0) later.1.0, next later.0 later.1.0 (Err r) later.1.1))
 ]
 
 -- ---- functions that go a course
@@ -65,10 +66,10 @@ abbrev pub Alike : {A B : Type 0} → (A → B → Type 0) → Type 0 → Course
 Alike {A} {B} Same Unless w v = (r : Result A Refusal) (s : Result B Refusal) → w r → v s → SameEnd Same r s ⊎ Unless
 
 alike_next : {A B C : Type 0} (Same : B → C → Type 0) (Unless : Type 0) (w v : Course A) (f : A → Course B) (g : A → Course C)
-    → Alike ◌≡◌ Unless w v → ((a : A) → Alike Same Unless (f a) (g a))
+    → Alike ◌≡◌ Unless w v → ((a : A) → w (Ok a) → Alike Same Unless (f a) (g a))
     → (a a' : A) → w (Ok a) → v (Ok a') → (r : Result B Refusal) (s : Result C Refusal) → f a r → g a' s → SameEnd Same r s ⊎ Unless
 alike_next Same Unless w v f g first next a a' came came' r s then then' = elim (first (Ok a) (Ok a') came came') [
-  | inl e ↦ next a' r s (subst (λ x. f x r) e then) then'
+  | inl e ↦ next a' (subst (λ x. w (Ok x)) e came) r s (subst (λ x. f x r) e then) then'
   | inr unless ↦ inr unless
 ]
 
@@ -77,7 +78,7 @@ none_alike (inl never) = absurd never
 none_alike (inr unless) = inr unless
 
 pub alike_then : {A B C : Type 0} (Same : B → C → Type 0) (Unless : Type 0) (w v : Course A) (f : A → Course B) (g : A → Course C)
-    → Alike ◌≡◌ Unless w v → ((a : A) → Alike Same Unless (f a) (g a)) → Alike Same Unless (w >>= f) (v >>= g)
+    → Alike ◌≡◌ Unless w v → ((a : A) → w (Ok a) → Alike Same Unless (f a) (g a)) → Alike Same Unless (w >>= f) (v >>= g)
 alike_then Same Unless w v f g first next (Ok b) (Ok c) x y =
     alike_next Same Unless w v f g first next x.0 y.0 x.1.0 y.1.0 (Ok b) (Ok c) x.1.1 y.1.1
 alike_then Same Unless w v f g first next (Ok b) (Err s) x y = elim y [
