@@ -1,9 +1,8 @@
-ghost use Rattle.std.specs.Prelude.{◌≡◌, ◌<◌, length, IfOk, IfSome};
+ghost use Rattle.std.specs.Prelude.{◌≡◌, ◌<◌, ◌==◌, ◌&&◌, not, length, IfOk, IfSome};
 ghost use Rattle.std.specs.Option.{option_map};
 ghost use Rattle.std.specs.Str.{bytes_eq};
 ghost use Rattle.bud_design.specs.Designs.{named_pins};
 ghost use Rattle.bud_design.specs.Names.{plain, meaning};
-ghost use Rattle.flat_design.specs.Fronts.{escapes};
 ghost use Rattle.delay_bind.specs.Rows.{row_name, row_place};
 
 use bud_base::{PinId, Text};
@@ -56,7 +55,7 @@ pub fn pin_of(flat: &Flat, text: &Text) -> Option<PinId>
 
 /// Whether the byte is a backslash that makes the next byte stand for itself.
 fn is_escape(escaped: bool, byte: u8) -> bool
-    ensures { result ≡ escapes escaped byte }
+    ensures { result ≡ (not escaped && byte == 92) }
 {
     !escaped && byte == b'\\'
 }
