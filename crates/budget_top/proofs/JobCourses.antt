@@ -15,7 +15,8 @@ use Rattle.budget_steps.specs.Steps.{Course, ◌>>=◌, ◌>>◌, step}
 use Rattle.budget_steps.specs.Inputs.{Seen, input, unfaulted}
 use Rattle.budget_top.specs.RawFiles.{problems, certificates}
 use Rattle.budget_top.specs.Problems.{sound, measured, verdict, IsSoundness, IsVerdict}
-use Rattle.budget_top.specs.Words.{Asked, raw, prove}
+use Rattle.budget_designs.proofs.JobLaws.{least_is, least_quiet}
+use Rattle.budget_top.specs.Words.{Asked, raw, prove, least}
 use Rattle.budget_top.specs.Jobs.{raw_job, prove_job, steps_of}
 use Rattle.budget_steps.proofs.Courses.{Alike, alike_then, alike_step}
 use Rattle.budget_steps.proofs.FileLaws.{input_alike}
@@ -58,11 +59,13 @@ prove_is problem cert =
 pub job_is : (asked : Asked) → IsJob (λ shelf. steps_of shelf asked)
 job_is (raw problem) = raw_is problem
 job_is (prove problem cert) = prove_is problem cert
+job_is (least netlist delays constraints) = least_is netlist delays constraints
 
 -- ---- no job writes a file
 pub job_quiet : (asked : Asked) (shelf : Seen (Option Files)) (outcome : Outcome) → steps_of shelf asked outcome → writes_of outcome ≡ []
 job_quiet asked shelf (Err r) came = refl
 job_quiet (raw problem) shelf (Ok answer) came = came.1.1.1.1.1
+job_quiet (least netlist delays constraints) shelf (Ok answer) came = least_quiet shelf netlist delays constraints answer came
 job_quiet (prove problem cert) shelf (Ok answer) came = ap (λ (a : Answer). a.writes) came.1.1.1.1.1.1.1
 
 -- ---- a problem that is sound and meets is budgeted

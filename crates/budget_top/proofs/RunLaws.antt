@@ -17,7 +17,7 @@ use Rattle.budget_steps.specs.declared.outcomes.Stop.TheVariants.{Refused as End
 use Rattle.budget_steps.specs.Outcomes.{Refusal, Outcome, said_of, writes_of}
 use Rattle.budget_steps.specs.Steps.{Follows}
 use Rattle.budget_steps.specs.Inputs.{Seen, unfaulted}
-use Rattle.budget_top.specs.Words.{Asked, raw, prove}
+use Rattle.budget_top.specs.Words.{Asked, raw, prove, least}
 use Rattle.budget_top.specs.Jobs.{course}
 use Rattle.budget_top.specs.Writing.{AreWritten, ArePartlyWritten, IsKept}
 use Rattle.budget_top.specs.Runs.{Came, Broke, IsSaid, IsEnd, kept_said, answered, IsPut, IsFinished, IsRun, Ends, Breaks, IsCalled, HasCauses, CallsFor, HasBudgets}
@@ -303,6 +303,7 @@ run_budgets (Some (raw problem)) (Some files) new before now out number run held
     called_of (Some (raw problem)) (record { old = Some files; new = new; before = before; now = now }) out number run Done
     (λ o came. elim (raw_alike problem files new before now o (Ok tt) came held) [ inl same ↦ inl (done_end o same) | inr rose ↦ inr rose ])
 run_budgets (Some (prove problem cert)) old new before now out number run held = absurd held
+run_budgets (Some (least netlist delays constraints)) old new before now out number run held = absurd held
 
 -- ---- no job changes a file
 course_quiet : (asked : Option Asked) (shelf : Seen (Option Files)) (outcome : Outcome) → course shelf asked outcome → writes_of outcome ≡ []

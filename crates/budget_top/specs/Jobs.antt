@@ -8,7 +8,8 @@ use Rattle.budget_steps.specs.Steps.{Course, ◌>>=◌, ◌>>◌}
 use Rattle.budget_steps.specs.Inputs.{Seen, input}
 use Rattle.budget_top.specs.RawFiles.{problems, certificates}
 use Rattle.budget_top.specs.Problems.{sound, measured, verdict}
-use Rattle.budget_top.specs.Words.{Asked, raw, prove}
+use Rattle.budget_designs.specs.Jobs.{least_job}
+use Rattle.budget_top.specs.Words.{Asked, raw, prove, least}
 
 -- `raw P`
 abbrev pub raw_job : Seen (Option Files) → List ℕ → Course Answer
@@ -33,6 +34,7 @@ misfit (Err r) = r ≡ record { subject = bare; cause = Words }
 abbrev pub steps_of : Seen (Option Files) → Asked → Course Answer
 steps_of shelf (raw problem) = raw_job shelf problem
 steps_of shelf (prove problem cert) = prove_job shelf problem cert
+steps_of shelf (least netlist delays constraints) = least_job shelf netlist delays constraints
 
 abbrev pub course : Seen (Option Files) → Option Asked → Course Answer
 course shelf None = misfit

@@ -17,7 +17,7 @@ use Rattle.budget_steps.specs.declared.outcomes.Stop.TheVariants.{Refused as End
 use Rattle.budget_steps.specs.Outcomes.{Outcome, said_of, writes_of, memory_said}
 use Rattle.budget_steps.specs.Inputs.{Seen, input, unfaulted}
 use Rattle.budget_top.specs.RawFiles.{problems}
-use Rattle.budget_top.specs.Words.{Asked, raw, prove}
+use Rattle.budget_top.specs.Words.{Asked, raw, prove, least}
 use Rattle.budget_top.specs.Jobs.{course}
 use Rattle.budget_top.specs.Writing.{AreWritten, ArePartlyWritten, unwritten, IsKept}
 
@@ -115,4 +115,5 @@ abbrev pub HasBudgets : Option Asked → Option Files → Type 0
 HasBudgets (Some (raw problem)) (Some files) = (p : Problem) × (input (unfaulted files) problems problem (Ok p) × (IsSound p × Meets p))
 HasBudgets (Some (raw problem)) None = ⊥
 HasBudgets (Some (prove problem cert)) files = ⊥
+HasBudgets (Some (least netlist delays constraints)) files = ⊥
 HasBudgets None files = ⊥

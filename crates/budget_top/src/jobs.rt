@@ -9,6 +9,7 @@ use crate::problems::{measured, sound, verdict};
 use crate::raw_files::{CertText, ProblemText};
 use crate::words::Job;
 use bud_shelf::Shelf;
+use budget_designs::least;
 use budget_steps::{Answer, Stop, load};
 use std::alloc::Global;
 
@@ -21,6 +22,9 @@ pub fn answer<S: Shelf>(alloc: Global, shelf: &mut S, job: Job<'_>) -> Result<An
     match job {
         Job::Raw(problem) => raw(alloc, shelf, problem),
         Job::Prove(problem, cert) => prove(alloc, shelf, problem, cert),
+        Job::Least(netlist, delays, constraints) => {
+            least(alloc, shelf, netlist, delays, constraints)
+        }
     }
 }
 

@@ -146,6 +146,8 @@ fn words_and_missing_files_are_named(rt: HostRuntime) -> Result<(), Fail> {
         (["raw"].as_slice(), 2, "words\n"),
         ([].as_slice(), 2, "words\n"),
         (["paint", "p"].as_slice(), 2, "words\n"),
+        (["least", "v", "d"].as_slice(), 2, "words\n"),
+        (["least", "v", "d", "c"].as_slice(), 3, "fault v\n"),
     ] {
         let (answer, printed) = run(rt.alloc(), words, &mut shelf)?;
         assert_eq!(rt; answer, status);
@@ -242,6 +244,28 @@ fn prove_reads_the_problem_and_then_the_certificate(rt: HostRuntime) -> Result<(
         let words = owned(rt.alloc(), &["prove", "p", "c"])?;
         let answer = run_budget(rt.alloc(), words.as_slice(), &mut shelf, &mut sink);
         assert_eq!(rt; answer, 3);
+        assert_eq!(rt; str::from_utf8(sink.bytes())?, text);
+    }
+    Ok(())
+}
+
+#[test]
+fn least_reads_a_netlist_then_delays_then_constraints(rt: HostRuntime) -> Result<(), Fail> {
+    for (call, status, text) in [
+        (1, 3, "fault v\n"),
+        (2, 3, "fault d\n"),
+        (3, 3, "fault c\n"),
+        (4, 0, "no paths\n"),
+    ] {
+        let mut shelf = MemShelf::new(rt.alloc());
+        shelf.add("v", b"module t (); endmodule")?;
+        shelf.add("d", b"(DELAYFILE (DIVIDER /))")?;
+        shelf.add("c", b"")?;
+        shelf.fail_at(call)?;
+        let mut sink = MemSink::new(rt.alloc());
+        let words = owned(rt.alloc(), &["least", "v", "d", "c"])?;
+        let answer = run_budget(rt.alloc(), words.as_slice(), &mut shelf, &mut sink);
+        assert_eq!(rt; answer, status);
         assert_eq!(rt; str::from_utf8(sink.bytes())?, text);
     }
     Ok(())

@@ -1,5 +1,5 @@
 ghost use Rattle.std.specs.Prelude.{◌≡◌, Some, None, MatchOption, map, string_bytes};
-ghost use Rattle.budget_top.specs.Words.{job_of, raw_of, prove_of, asked};
+ghost use Rattle.budget_top.specs.Words.{job_of, raw_of, prove_of, least_of, asked};
 
 /// What the words of the command line ask for.
 #[derive(Clone, Copy)]
@@ -8,6 +8,8 @@ pub enum Job<'a> {
     Raw(&'a str),
     /// `prove P CERT`: checks a certificate of a raw problem.
     Prove(&'a str, &'a str),
+    /// `least V SDF SDC`: the least slack of a design, or a worst violated path.
+    Least(&'a str, &'a str, &'a str),
 }
 
 /// The job of the words behind the program's name, where they fit one.
@@ -21,6 +23,8 @@ pub fn asked_job(words: &[String]) -> Option<Job<'_>>
         raw(names)
     } else if word.as_bytes() == b"prove".as_slice() {
         prove(names)
+    } else if word.as_bytes() == b"least".as_slice() {
+        least(names)
     } else {
         None
     }
@@ -40,6 +44,19 @@ fn prove(names: &[String]) -> Option<Job<'_>>
 {
     match names {
         [problem, cert] => Some(Job::Prove(problem.as_str(), cert.as_str())),
+        _ => None,
+    }
+}
+
+fn least(names: &[String]) -> Option<Job<'_>>
+    ensures { MatchOption result (least_of (map string_bytes names.now) ≡ None) (λ job. least_of (map string_bytes names.now) ≡ Some (asked job)) }
+{
+    match names {
+        [netlist, delays, constraints] => Some(Job::Least(
+            netlist.as_str(),
+            delays.as_str(),
+            constraints.as_str(),
+        )),
         _ => None,
     }
 }

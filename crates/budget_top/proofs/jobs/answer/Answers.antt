@@ -5,3 +5,6 @@ returns-in-Raw-clause-course g c = rw c.in-Raw.is c.raw.ensures.course
 
 pub returns-in-Prove-clause-course : goal.returns-in-Prove-clause-course
 returns-in-Prove-clause-course g c = rw c.in-Prove.is c.prove.ensures.course
+
+pub returns-in-Least-clause-course : goal.returns-in-Least-clause-course
+returns-in-Least-clause-course g c = rw c.in-Least.is c.least.ensures.course
