@@ -13,7 +13,8 @@ import random
 import subprocess
 import sys
 import tempfile
-import time
+
+from problems import run
 
 CELLS = """`celldefine
 module GATE (A, B, Z); input A, B; output Z; endmodule
@@ -90,19 +91,6 @@ def make(gates, clocks, prefix):
         delays.write(")\n")
     with open(prefix + ".sdc", "w") as file:
         constraints(gates, clocks, file)
-
-
-def run(words):
-    """Wall seconds and peak memory in bytes of a command, the best of three runs."""
-    seconds, memory = [], []
-    for _ in range(3):
-        begin = time.monotonic()
-        child = subprocess.Popen(words, stdout=subprocess.DEVNULL)
-        _, status, usage = os.wait4(child.pid, 0)
-        child.returncode = os.waitstatus_to_exitcode(status)
-        seconds.append(time.monotonic() - begin)
-        memory.append(usage.ru_maxrss * 1024)
-    return min(seconds), min(memory), child.returncode
 
 
 def report(program, gates, prefix):
