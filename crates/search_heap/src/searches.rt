@@ -172,4 +172,12 @@ impl Search {
             None
         }
     }
+
+    /// How many nodes were taken since the search began.
+    pub fn taken_count(&self) -> usize
+        ensures count { result ≡ length self.now.taken }
+        ensures ordered { AreInOrder self.now.entries self.now.taken }
+    {
+        self.taken
+    }
 }
