@@ -5,6 +5,7 @@ pub mod Keeping
 pub mod Sweeping
 pub mod Blocks
 pub mod Pairs
+pub mod Leaving
 pub mod Freshness
 pub mod Ends
 pub mod Balance

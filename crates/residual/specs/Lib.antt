@@ -2,6 +2,7 @@ pub mod Bounds
 pub mod Arcs
 pub mod Excesses
 pub mod Networks
+pub mod Leaving
 pub mod Insides
 pub mod Sweeps
 pub mod Balances

@@ -1,6 +1,7 @@
 //! The residual network of a problem: arcs with flows, potentials that keep reduced costs at least 0, and excess.
 #![tactic(auto)]
 
+mod adjacency;
 mod arcs;
 mod arrivals;
 mod comparisons;

@@ -1,6 +1,7 @@
-ghost use Rattle.std.specs.Prelude.{◌≡◌, ℕ, ◌<◌, ◌+◌, ◌≤ℤ◌, ◌+ℤ◌, ◌-ℤ◌, ◌^◌, ◌↔◌, pos, false, true, slice_set, IsTrue, IfOk};
+ghost use Rattle.std.specs.Prelude.{◌≡◌, ℕ, ◌<◌, ◌+◌, ◌≤ℤ◌, ◌+ℤ◌, ◌-ℤ◌, ◌^◌, ◌↔◌, pos, false, true, length, slice_index_or, slice_set, IsTrue, IfOk};
 ghost use Rattle.bud_flow.specs.Sums.{number_at};
 
+use crate::adjacency::lists_of;
 use crate::arcs::{
     Arc, Look, add_at, arcs_of, copied, excesses_of, first_flows, forward_amount, keep, lift_at,
     look_at, move_excess, number_in,
@@ -8,6 +9,7 @@ use crate::arcs::{
 use crate::arrivals::least_arrivals;
 use crate::comparisons::{are_ends, are_limited, are_open, are_starts};
 use crate::walks::{Way, no_ways, trim_flows};
+use arc_lists::ArcLists;
 use bud_base::{ItemId, NodeId, Problem, Steps};
 use std::alloc::{AllocError, Global};
 use std::marker::Model;
@@ -23,6 +25,8 @@ pub struct Net {
     arcs: Vec<Arc>,
     flows: Vec<i128>,
     excess: Vec<i128>,
+    /// The residual arcs that leave each node and the root.
+    lists: ArcLists,
     kept: Vec<i64>,
     potentials: Vec<i64>,
     is_open: bool,
@@ -50,6 +54,7 @@ impl Net {
     ghost use Rattle.residual.specs.Bounds.{IsSmall, IsWithin};
     ghost use Rattle.residual.specs.Balances.{HasNoExcess, HasRoom, total_start_flow, total_weight};
     ghost use Rattle.residual.specs.Excesses.{flows_after};
+    ghost use Rattle.residual.specs.Leaving.{leaving};
     ghost use Rattle.residual.specs.Networks.{IsKey, residual, IsLawful, AreReduced, excess_at, item_flow_at, start_flow_at, end_flow_at, Fits, IsFresh};
     ghost use Rattle.residual.specs.Trims.{AreLess, KeepsLimited, HasNoSurplus, total_limit};
 
@@ -70,6 +75,7 @@ impl Net {
         let arcs = arcs_of(alloc, NodeId(problem.nodes), items, starts, ends)?;
         let flows = first_flows(alloc, &potentials, items, starts, ends)?;
         let excess = excesses_of(alloc, problem.nodes as usize + 1, &arcs, &flows)?;
+        let lists = lists_of(alloc, problem.nodes as usize + 1, &arcs)?;
         let ways = no_ways(alloc, problem.nodes as usize + 1)?;
         Ok(Net {
             nodes: problem.nodes,
@@ -79,6 +85,7 @@ impl Net {
             arcs,
             flows,
             excess,
+            lists,
             kept,
             potentials,
             is_open: false,
@@ -106,6 +113,23 @@ impl Net {
             && are_open(&self.arcs, self.items, items)
             && are_starts(&self.arcs, first, root, starts)
             && are_ends(&self.arcs, first + self.starts, root, ends)
+    }
+
+    /// How many residual arcs leave the node, whether they have room or not.
+    pub fn degree(&self, node: NodeId) -> usize
+        requires { node.0 < self.now.nodes + 1 }
+        ensures { result ≡ length (leaving self.now node.0) }
+    {
+        self.lists.degree(node)
+    }
+
+    /// The key of a residual arc that leaves the node, by its place from 0.
+    pub fn arc_at(&self, node: NodeId, place: usize) -> usize
+        requires node { node.0 < self.now.nodes + 1 }
+        requires place { place < length (leaving self.now node.0) }
+        ensures { result ≡ slice_index_or (leaving self.now node.0) place 0 }
+    {
+        self.lists.key_at(node, place)
     }
 
     /// Looks at a residual arc, which is a step.

@@ -25,4 +25,4 @@ returns-clause-lawful c =
     (IsLawful-lifted c.args.self.now c.args.node.0 (number_at c.args.self.now.potentials c.args.node.0 +ℤ c.args.by) (subst IsLawful c.self.view_is c.self.invariant.lawful) c.requires.node c.requires.small)
 
 pub invariant_of-self : goal.invariant_of-self
-invariant_of-self c = record { lawful = returns-clause-lawful c; excess_size = c.self.invariant.excess_size; excesses = c.self.invariant.excesses; ways = c.self.invariant.ways }
+invariant_of-self c = record { lawful = returns-clause-lawful c; excess_size = c.self.invariant.excess_size; excesses = c.self.invariant.excesses; listed = c.self.invariant.listed; ways = c.self.invariant.ways }

@@ -39,6 +39,14 @@ excesses_of-requires-clause-nodes c =
     let lawful = IsLawful-fresh c.args.problem.now _ _ _ _ c.requires.sound c.requires.meets fresh in
     subst (JoinBelow (c.args.problem.now.nodes + 1)) (sym c.deref-3.ensures.value) lawful.sizes.joins
 
+pub lists_of-requires-clause-nodes : goal.lists_of-requires-clause-nodes
+lists_of-requires-clause-nodes c =
+    let fresh = lists c.args.problem.now _ _ _ c.in_ok-arcs.arcs.items c.in_ok-flows.flows.items c.in_ok-kept.kept.items c.deref-2.result.now c.in_ok-potentials.potentials.items
+    c.as_slice-items.ensures c.as_slice-starts.ensures c.as_slice-ends.ensures c.in_ok-arcs.ensures c.deref-2.ensures.value c.in_ok-flows.ensures
+    (c.in_ok-kept.ensures ∙ c.deref.ensures.value) c.in_ok-potentials.ensures.reached c.in_ok-potentials.ensures.suit in
+    let lawful = IsLawful-fresh c.args.problem.now _ _ _ _ c.requires.sound c.requires.meets fresh in
+    subst (JoinBelow (c.args.problem.now.nodes + 1)) (sym c.deref-5.ensures.value) lawful.sizes.joins
+
 pub excesses_of-requires-clause-flows : goal.excesses_of-requires-clause-flows
 excesses_of-requires-clause-flows c =
     let fresh = lists c.args.problem.now _ _ _ c.in_ok-arcs.arcs.items c.in_ok-flows.flows.items c.in_ok-kept.kept.items c.deref-2.result.now c.in_ok-potentials.potentials.items
@@ -77,6 +85,7 @@ invariant_of-result c =
     record {
       lawful = returns-clause-lawful c;
       excess_size = c.in_ok-excess.ensures.size;
+      listed = rw (← c.deref-5.ensures.value) c.in_ok-lists.ensures;
       ways = c.in_ok-ways.ensures;
       excesses = subst Q c.deref-4.ensures.value (subst P c.deref-3.ensures.value c.in_ok-excess.ensures.excesses);
     }

@@ -66,6 +66,7 @@ invariant_of-self c =
     record {
       lawful = returns-clause-lawful c;
       excess_size = ap length written ∙ c.move_excess.auto.excess ∙ ap length c.deref_mut-3.ensures.value ∙ c.self.invariant.excess_size;
+      listed = c.self.invariant.listed;
       ways = c.self.invariant.ways;
       excesses = subst P (sym same_flows) (subst Q (sym (written ∙ moved)) told);
     }

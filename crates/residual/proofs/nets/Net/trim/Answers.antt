@@ -65,6 +65,7 @@ invariant_of-self c =
     record {
       lawful = trimmed.lawful;
       excess_size = c.self.invariant.excess_size;
+      listed = c.self.invariant.listed;
       excesses = AreExcesses-walks c.self.inside.arcs.items c.self.inside.items c.self.inside.flows.items _ c.self.inside.excess.items c.self.invariant.excesses trimmed.taken;
       ways = ap length (with_items_is c.self.inside.ways c.trim_flows.new.ways (c.trim_flows.auto.ways ∙ c.deref_mut-2.ensures.len)) ∙ c.trim_flows.ensures.size ∙ ap length c.deref_mut-2.ensures.value ∙ c.self.invariant.ways;
     }
