@@ -17,7 +17,7 @@ use Rattle.residual.specs.declared.arcs.Look.{Look}
 use Rattle.flow_solver.specs.Entries.{entry_at, by_at, place_at}
 use Rattle.flow_solver.specs.Lifts.{with_potentials}
 use Rattle.flow_solver.specs.Pushes.{IsTaken, FitsAt, IsAmount, SameNetwork, IsPushed, IsAugmented}
-use Rattle.flow_solver.specs.Rounds.{HasSlack}
+use Rattle.flow_solver.specs.Rounds.{HasSlack, AreRounds}
 use Rattle.flow_solver.specs.declared.entries.Entry.{Entry}
 
 none-some : {A : Type 0} (o : Option A) (x : A) → o ≡ None → o ≡ Some x → ⊥
@@ -185,3 +185,26 @@ surplus-falls old new augmented = less_size (surplus new) (surplus old) augmente
 -- where no node has excess none lacks flow
 pub HasNoExcess-none : (net : Network) → IsLawful net → ((v : ℕ) → v < net.nodes + 1 → excess_at net v ≤ℤ pos 0) → HasNoExcess net
 HasNoExcess-none net lawful none = sum_below-all_zero (net.nodes + 1) (excess_at net) none (excess_of-total (net.nodes + 1) net.arcs net.flows lawful.sizes.joins)
+
+-- ---- rounds
+pub AreRounds-none : (net : Network) → net.is_open ≡ false → (IsLawful net → HasSlack net) → AreRounds net net
+AreRounds-none net closed slack = record { same = record { nodes = refl; items = refl; starts = refl; ends = refl; arcs = refl }; closed = closed; slack = slack; fallen = omega (arith, ints) }
+
+pub AreRounds-augmented : (old mid new : Network) → AreRounds old mid → IsLawful mid → IsAugmented mid new → AreRounds old new
+AreRounds-augmented old mid new rounds lawful augmented = record {
+  same = SameNetwork-further old mid new rounds.same augmented.same;
+  closed = augmented.closed;
+  slack = λ _. HasSlack-augmented mid new (rounds.slack lawful) augmented;
+  fallen = omega (arith, ints, rounds.fallen, augmented.settled, augmented.positive);
+}
+
+pub AreRounds-further : (old mid new : Network) → AreRounds old mid → AreRounds mid new → AreRounds old new
+AreRounds-further old mid new first second = record {
+  same = SameNetwork-further old mid new first.same second.same;
+  closed = second.closed;
+  slack = second.slack;
+  fallen = omega (arith, ints, first.fallen, second.fallen);
+}
+
+pub size-falls : (old new : Network) → surplus new <ℤ surplus old → size_of (surplus new) < size_of (surplus old)
+size-falls old new less = less_size (surplus new) (surplus old) (surplus old -ℤ surplus new) (surplus-positive new) (omega (arith, ints)) (omega (arith, ints, less))

@@ -1,6 +1,5 @@
 -- Labellings, and potentials lifted by them.
-use Rattle.std.proofs.Common.{◌≡◌, ℕ, ℤ, pos, ◌+ℤ◌, ◌-ℤ◌, ◌<ℤ◌, ◌+◌, ◌<◌, List, map, Option, Some, None, arith, refl, ap, sym, ◌∙◌, inl, inr, Bool, true, false}
-use Rattle.std.specs.Prelude.{int_lt}
+use Rattle.std.proofs.Common.{◌≡◌, ℕ, ℤ, pos, ◌+ℤ◌, ◌-ℤ◌, ◌<ℤ◌, ◌+◌, ◌<◌, List, map, arith, ap, sym, ◌∙◌, inl, inr}
 use Rattle.std.specs.List.{range_with_len}
 use Rattle.std.proofs.lemmas.Int.{ints}
 use Rattle.std.proofs.lemmas.Bool.{cases_lt}
@@ -15,9 +14,8 @@ use Rattle.residual.specs.Balances.{HasRoom}
 use Rattle.residual.proofs.Ends.{HasEnds-residual}
 use Rattle.residual.proofs.Theory.{Suit-from_reduced, IsWithin-from_suit}
 use Rattle.residual.specs.declared.arcs.Look.{Look}
-use Rattle.flow_solver.specs.Entries.{entry_at, distance_by, distance_over, IsLabelling}
+use Rattle.flow_solver.specs.Entries.{IsLabelling}
 use Rattle.flow_solver.specs.Lifts.{AreLifted}
-use Rattle.flow_solver.specs.declared.entries.Entry.{Entry}
 
 -- an arc gains what the labels don't use up
 pub reduced_cost-lifted : (nodes : ℕ) (before after : List ℤ) (label : ℕ → ℤ) (look : Look) → AreLifted nodes before after label → look.from.0 < nodes + 1 → look.to.0 < nodes + 1
@@ -53,34 +51,3 @@ label-within net p label v sound lawful fits room reduced labelling below =
           let same : label v ≡ label p.nodes = ap label (omega arith) in
           record { low = omega (arith, ints, same); high = omega (arith, ints, same) }
     ]
-
--- ---- what a distance over an arc says
-pub record LeadsOut (net : Network) (entries : List (Option Entry)) (key : ℕ) (far : ℤ) : Type 0 where
-  pub room : pos 0 <ℤ (residual net key).room
-  pub before : Entry
-  pub from : entry_at entries (residual net key).from.0 ≡ Some before
-  pub to : entry_at entries (residual net key).to.0 ≡ None
-  pub distance : far ≡ before.distance +ℤ reduced_cost net.potentials (residual net key)
-
-out-of : (test : Bool) (room cost : ℤ) (first second : Option Entry) (far : ℤ) → int_lt (pos 0) room ≡ test → distance_by test cost first second ≡ Some far
-    → (pos 0 <ℤ room) × ((e : Entry) × (first ≡ Some e) × (second ≡ None) × (far ≡ e.distance +ℤ cost))
-out-of true room cost (Some e) None far is some = (grind (arith, ints), (e, refl, refl, cc))
-out-of true room cost (Some e) (Some f) far is some = absurd (cc)
-out-of true room cost None second far is some = absurd (cc)
-out-of false room cost first second far is some = absurd (cc)
-
-pub LeadsOut-from_distance : (net : Network) (entries : List (Option Entry)) (key : ℕ) (far : ℤ) → distance_over net entries key ≡ Some far → LeadsOut net entries key far
-LeadsOut-from_distance net entries key far some =
-    let parts = out-of (int_lt (pos 0) (residual net key).room) (residual net key).room (reduced_cost net.potentials (residual net key)) (entry_at entries (residual net key).from.0) (entry_at entries (residual net key).to.0) far refl some in
-    record { room = parts.0; before = parts.1.0; from = parts.1.1; to = parts.1.2; distance = parts.1.3 }
-
-into : (test : Bool) (room cost : ℤ) (first second : Option Entry) (e : Entry) → int_lt (pos 0) room ≡ test → pos 0 <ℤ room → first ≡ Some e → second ≡ None
-    → distance_by test cost first second ≡ Some (e.distance +ℤ cost)
-into true room cost first second e is more some none = rw (some, none) refl
-into false room cost first second e is more some none = absurd (grind (arith, ints))
-
--- and the other way round
-pub distance_over-some : (net : Network) (entries : List (Option Entry)) (key : ℕ) (e : Entry) → pos 0 <ℤ (residual net key).room → entry_at entries (residual net key).from.0 ≡ Some e
-    → entry_at entries (residual net key).to.0 ≡ None → distance_over net entries key ≡ Some (e.distance +ℤ reduced_cost net.potentials (residual net key))
-distance_over-some net entries key e room from to =
-    into (int_lt (pos 0) (residual net key).room) (residual net key).room (reduced_cost net.potentials (residual net key)) (entry_at entries (residual net key).from.0) (entry_at entries (residual net key).to.0) e refl room from to

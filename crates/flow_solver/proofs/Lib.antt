@@ -1,9 +1,12 @@
-pub mod Nearness
+pub mod Spreading
+pub mod Founds
+pub mod Looking
 pub mod Seeds
 pub mod Labels
 pub mod Taking
 pub mod Ways
 pub mod Lifting
+pub mod Raising
 pub mod Amounts
 pub mod PushSteps
 pub mod Augments

@@ -1,5 +1,5 @@
 -- Entries of a search: how each node that it took was reached.
-use Rattle.std.specs.Prelude.{◌≡◌, ℕ, ℤ, pos, ◌<◌, ◌+ℤ◌, ◌<ℤ◌, ◌≤ℤ◌, Bool, true, false, Option, Some, None, List, slice_index_or, int_lt}
+use Rattle.std.specs.Prelude.{◌≡◌, ℕ, ℤ, pos, ◌<◌, ◌+ℤ◌, ◌<ℤ◌, ◌≤ℤ◌, Option, Some, None, List, slice_index_or}
 use Rattle.residual.specs.Arcs.{reduced_cost}
 use Rattle.residual.specs.Networks.{Network, IsKey, residual, excess_at}
 use Rattle.flow_solver.specs.declared.entries.Entry.{Entry}
@@ -30,18 +30,6 @@ label_of last (Some e) = e.distance
 
 abbrev pub label_at : List (Option Entry) → ℤ → ℕ → ℤ
 label_at entries last v = label_of last (entry_at entries v)
-
--- the distance that an arc from a taken node with room gives to a node that isn't taken
-abbrev pub distance_by : Bool → ℤ → Option Entry → Option Entry → Option ℤ
-distance_by true cost (Some e) None = Some (e.distance +ℤ cost)
-distance_by true cost (Some e) (Some f) = None
-distance_by true cost None other = None
-distance_by false cost before other = None
-
-abbrev pub distance_over : Network → List (Option Entry) → ℕ → Option ℤ
-distance_over net entries key =
-    distance_by (int_lt (pos 0) (residual net key).room) (reduced_cost net.potentials (residual net key))
-    (entry_at entries (residual net key).from.0) (entry_at entries (residual net key).to.0)
 
 -- labels that rise along no residual arc with room by more than its reduced cost
 pub record IsLabelling (net : Network) (label : ℕ → ℤ) : Type 0 where

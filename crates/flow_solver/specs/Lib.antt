@@ -1,4 +1,5 @@
 pub mod Entries
+pub mod Spreading
 pub mod Searches
 pub mod Lifts
 pub mod Pushes

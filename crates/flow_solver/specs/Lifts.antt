@@ -1,5 +1,5 @@
 -- Potentials that are lifted by labels.
-use Rattle.std.specs.Prelude.{◌≡◌, ℕ, ℤ, ◌+◌, ◌<◌, ◌≤◌, ◌+ℤ◌, ◌-ℤ◌, Bool, List}
+use Rattle.std.specs.Prelude.{◌≡◌, ◌≢◌, ℕ, ℤ, ◌+◌, ◌<◌, ◌≤◌, ◌+ℤ◌, ◌-ℤ◌, Bool, List}
 use Rattle.bud_flow.specs.Sums.{number_at}
 use Rattle.residual.specs.Networks.{Network, IsLawful}
 
@@ -16,4 +16,11 @@ pub record AreLiftedBelow (old new : Network) (label : ℕ → ℤ) (k : ℕ) : 
   pub same : new ≡ with_potentials old new.potentials new.is_open
   pub lifted : (v : ℕ) → v < k → number_at new.potentials v ≡ number_at old.potentials v +ℤ (label old.nodes -ℤ label v)
   pub others : (v : ℕ) → k ≤ v → number_at new.potentials v ≡ number_at old.potentials v
+  pub lawful : IsLawful new
+
+-- the potential of a node is lifted by this, and nothing else has changed
+pub record IsLiftedAt (old new : Network) (v : ℕ) (by : ℤ) : Type 0 where
+  pub here : number_at new.potentials v ≡ number_at old.potentials v +ℤ by
+  pub others : (w : ℕ) → w ≢ v → number_at new.potentials w ≡ number_at old.potentials w
+  pub same : new ≡ with_potentials old new.potentials new.is_open
   pub lawful : IsLawful new

@@ -14,3 +14,4 @@ pub record AreRounds (old new : Network) : Type 0 where
   pub same : SameNetwork old new
   pub closed : new.is_open ≡ false
   pub slack : IsLawful new → HasSlack new
+  pub fallen : surplus new ≤ℤ surplus old

@@ -1,44 +1,55 @@
-ghost use Rattle.std.specs.Prelude.{◌≡◌, ℕ, ◌+◌, ◌*◌, ◌<◌, ◌≤◌, ◌<ℤ◌, ◌≤ℤ◌, ◌^◌, pos, false, length, int_lt, IsTrue, IfSome};
-ghost use Rattle.residual.specs.Arcs.{reduced_cost};
-ghost use Rattle.residual.specs.Networks.{IsLawful, residual, excess_at};
-ghost use Rattle.residual.specs.Bounds.{IsSmall, IsWithin};
-ghost use Rattle.flow_solver.specs.Entries.{entry_at, distance_by, distance_over};
-ghost use Rattle.flow_solver.specs.Pushes.{IsTaken};
-ghost use Rattle.flow_solver.specs.Searches.{AreSeeded, AreTaken, NoneLacks, IsNearestBelow, HaveSmallDistances, nearer_of};
+ghost use Rattle.std.specs.Prelude.{◌≡◌, ℕ, ◌+◌, ◌*◌, ◌<◌, ◌≤◌, ◌+ℤ◌, ◌<ℤ◌, ◌≤ℤ◌, ◌^◌, pos, false, List, Option, length, IsTrue};
 ghost use Rattle.bud_base.specs.Soundness.{IsSound};
-ghost use Rattle.residual.specs.Networks.{Fits, AreReduced};
+ghost use Rattle.residual.specs.Arcs.{reduced_cost};
 ghost use Rattle.residual.specs.Balances.{HasRoom};
+ghost use Rattle.residual.specs.Bounds.{IsSmall, IsWithin};
+ghost use Rattle.residual.specs.Leaving.{leaving};
+ghost use Rattle.residual.specs.Networks.{Fits, IsKey, IsLawful, AreReduced, excess_at};
+ghost use Rattle.flow_solver.specs.Pushes.{IsTaken};
+ghost use Rattle.flow_solver.specs.Searches.{HasExcessAnswer, AreTaken, IsSeeded, IsSearching};
+ghost use Rattle.flow_solver.specs.Spreading.{IsScanning, looked_along, entries_of};
 
-use crate::entries::{Candidate, Entry};
+use crate::entries::Entry;
 use bud_base::{NodeId, Problem, Steps};
 use residual::{Look, Net};
+use search_heap::{Near, Search};
 use std::sync::ledger::Ledger;
 
-/// Takes the nodes with excess, and answers whether there are any.
-pub fn seed(net: &Net, nodes: u32, entries: &mut [Option<Entry>]) -> bool
-    requires nodes { net.now.nodes ≡ nodes }
-    requires few { nodes ≤ 8388608 }
-    requires size { length entries.old ≡ nodes + 1 }
+/// Whether a node has excess.
+pub fn has_excess(net: &Net, node: NodeId) -> bool
+    requires { node.0 < net.now.nodes + 1 }
     ensures lawful { IsLawful net.now }
-    ensures seeded { AreSeeded net.now entries.new }
-    ensures some { IsTrue result → ((v : ℕ) × (v < length entries.new) × (pos 0 <ℤ excess_at net.now v)) }
-    ensures none { result ≡ false → (v : ℕ) → v < length entries.new → excess_at net.now v ≤ℤ pos 0 }
+    ensures yes { IsTrue result → pos 0 <ℤ excess_at net.now node.0 }
+    ensures no { result ≡ false → excess_at net.now node.0 ≤ℤ pos 0 }
 {
-    let mut found = net.excess(NodeId(nodes)) > 0;
-    for node in 0..nodes + 1 {
-        let place = node as usize;
-        if net.excess(NodeId(node)) > 0 {
-            entries[place] = Some(Entry {
-                distance: 0,
-                by: None,
-                place: 0,
-            });
-            found = true;
-        } else {
-            entries[place] = None;
+    net.excess(node) > 0
+}
+
+/// A node with excess, if there is one.
+pub fn node_with_excess(net: &Net, nodes: u32) -> Option<NodeId>
+    requires nodes { net.now.nodes ≡ nodes }
+    ensures lawful { IsLawful net.now }
+    ensures answer { HasExcessAnswer net.now result }
+{
+    if has_excess(net, NodeId(nodes)) {
+        return Some(NodeId(nodes));
+    }
+    for node in 0..nodes {
+        if has_excess(net, NodeId(node)) {
+            return Some(NodeId(node));
         }
     }
-    found
+    None
+}
+
+/// Begins a search at a node, with no node taken.
+pub fn begin(front: &mut Search, node: NodeId)
+    requires { node.0 < length front.old.entries }
+    ensures seeded { IsSeeded front.new node.0 }
+    ensures room { length front.new.entries ≡ length front.old.entries }
+{
+    front.restart();
+    front.reach(node, 0, None);
 }
 
 /// The cost of a residual arc and the potential that it gains, in ps.
@@ -52,114 +63,81 @@ fn cost_along(net: &Net, look: &Look) -> i64
     look.cost + (net.potential(look.to) - net.potential(look.from))
 }
 
-/// How far a residual arc with room leads from a taken node to one that isn't taken.
-fn distance_along(net: &Net, entries: &[Option<Entry>], look: &Look) -> Option<i64>
-    requires size { length entries.now ≡ net.now.nodes + 1 }
-    requires small { HaveSmallDistances entries.now }
+/// How far a residual arc leads from a node, in ps.
+fn distance_along(net: &Net, look: &Look, near: Near) -> i64
     requires from { look.now.from.0 < net.now.nodes + 1 }
     requires to { look.now.to.0 < net.now.nodes + 1 }
     requires cost { IsSmall look.now.cost }
-    ensures distance { result ≡ distance_by (int_lt (pos 0) look.now.room) (reduced_cost net.now.potentials look.now) (entry_at entries.now look.now.from.0) (entry_at entries.now look.now.to.0) }
-    ensures within { IfSome result (IsWithin (pos (2 ^ 62))) }
+    requires small { IsWithin (pos (2 ^ 60)) near.distance }
+    ensures distance { result ≡ near.distance +ℤ reduced_cost net.now.potentials look.now }
+    ensures within { IsWithin (pos (2 ^ 62)) result }
 {
-    if look.room <= 0 {
-        return None;
-    }
-    match entries[look.from.0 as usize] {
-        Some(entry) => match entries[look.to.0 as usize] {
-            Some(_) => None,
-            None => Some(entry.distance + cost_along(net, look)),
-        },
-        None => None,
-    }
+    near.distance + cost_along(net, look)
 }
 
-/// The nearer of the best candidate so far and another.
-fn nearer(best: Option<Candidate>, other: Candidate) -> Candidate
-    ensures { result ≡ nearer_of best other }
-{
-    match best {
-        Some(before) => {
-            if before.distance <= other.distance {
-                before
-            } else {
-                other
-            }
-        }
-        None => other,
-    }
-}
-
-/// The nearest node that isn't taken and can be reached over one arc, found by a scan of all arcs.
-fn nearest<L: Ledger>(
+/// Looks along a residual arc that leaves a node; where it has room, the node that it leads to is reached.
+fn look_along<L: Ledger>(
     net: &Net,
-    arcs: usize,
-    entries: &[Option<Entry>],
+    near: Near,
+    arc: usize,
+    front: &mut Search,
     steps: &mut Steps<L>,
-) -> Option<Candidate>
-    requires arcs { arcs ≡ 2 * length net.now.arcs }
-    requires size { length entries.now ≡ net.now.nodes + 1 }
-    requires small { HaveSmallDistances entries.now }
-    ensures { IsNearestBelow net.now entries.now arcs result }
+)
+    requires key { IsKey net.now arc }
+    requires small { IsWithin (pos (2 ^ 60)) near.distance }
+    requires room { length front.old.entries ≡ net.now.nodes + 1 }
+    ensures { front.new ≡ record front.old { entries = looked_along net.now near.distance arc front.old.entries } }
 {
-    let mut best: Option<Candidate> = None;
-    for arc in 0..arcs {
-        let look = net.look(arc, steps);
-        if let Some(distance) = distance_along(net, entries, &look) {
-            let node = look.to;
-            best = Some(nearer(
-                best,
-                Candidate {
-                    arc,
-                    node,
-                    distance,
-                },
-            ));
-        }
+    let look = net.look(arc, steps);
+    if look.room <= 0 {
+        return;
     }
-    best
+    let distance = distance_along(net, &look, near);
+    front.reach(look.to, distance, Some(arc));
 }
 
-/// How many residual arcs the network of a problem has.
-fn key_count(problem: &Problem) -> usize
-    requires { IsSound problem.now }
-    ensures { result ≡ 2 * (length problem.now.items + length problem.now.items + length problem.now.starts + length problem.now.ends) }
+/// Looks along each residual arc that leaves the node taken last.
+fn scan<L: Ledger>(net: &Net, near: Near, front: &mut Search, steps: &mut Steps<L>)
+    requires node { near.node.0 < net.now.nodes + 1 }
+    requires lawful { IsLawful net.now }
+    requires reduced { AreReduced net.now net.now.potentials }
+    requires small { IsWithin (pos (2 ^ 60)) near.distance }
+    requires room { length front.old.entries ≡ net.now.nodes + 1 }
+    ensures scanned { (entries : List (Option Entry)) (count : ℕ) → IsScanning net.now entries front.old.entries near count 0 → IsScanning net.now entries front.new.entries near count (length (leaving net.now near.node.0)) }
+    ensures taken { front.new.taken ≡ front.old.taken }
+    ensures room { length front.new.entries ≡ net.now.nodes + 1 }
 {
-    2 * (problem.items.len() + problem.items.len() + problem.starts.len() + problem.ends.len())
+    for place in 0..net.degree(near.node) {
+        let arc = net.arc_at(near.node, place);
+        look_along(net, near, arc, front, steps);
+    }
 }
 
 /// Takes the nearest node again and again, until it lacks flow.
 pub fn search<L: Ledger>(
     net: &Net,
     problem: &Problem,
-    entries: &mut [Option<Entry>],
+    front: &mut Search,
     steps: &mut Steps<L>,
-) -> Candidate
+) -> Near
     requires sound { IsSound problem.now }
     requires fits { Fits net.now problem.now }
     requires lawful { IsLawful net.now }
     requires reduced { AreReduced net.now net.now.potentials }
     requires room { HasRoom net.now }
-    requires seeded { AreSeeded net.now entries.old }
-    requires some { (v : ℕ) × (v < length entries.old) × (pos 0 <ℤ excess_at net.now v) }
-    ensures taken { (count : ℕ) × AreTaken net.now entries.new result.distance count }
-    ensures there { IsTaken entries.new result.node.0 }
+    requires searching { IsSearching net.now (entries_of front.old.entries) front.old }
+    ensures taken { (count : ℕ) × AreTaken net.now (entries_of front.new.entries) result.distance count }
+    ensures there { IsTaken (entries_of front.new.entries) result.node.0 }
     ensures lacks { excess_at net.now result.node.0 <ℤ pos 0 }
+    ensures size { length front.new.entries ≡ net.now.nodes + 1 }
 {
-    let arcs = key_count(problem);
-    let mut place = 1;
     'nodes: loop {
-        let Some(candidate) = nearest(net, arcs, entries, steps) else {
+        let Some(near) = front.nearest() else {
             unreachable!()
         };
-        entries[candidate.node.0 as usize] = Some(Entry {
-            distance: candidate.distance,
-            by: Some(candidate.arc),
-            place,
-        });
-        place += 1;
-        if net.excess(candidate.node) < 0 {
-            return candidate;
+        if net.excess(near.node) < 0 {
+            return near;
         }
+        scan(net, near, front, steps);
     }
 }

@@ -1,24 +1,24 @@
 ghost use Rattle.std.specs.Prelude.{◌≡◌, ℕ, ◌+◌, ◌<◌, ◌<ℤ◌, ◌≤ℤ◌, pos, false, length, OnOk, OnErr};
 ghost use Rattle.bud_base.specs.Soundness.{IsSound};
 ghost use Rattle.residual.specs.Networks.{Fits, IsFresh, IsLawful, excess_at};
-ghost use Rattle.residual.specs.Balances.{HasRoom, HasNoExcess, IsSettled, total_start_flow, total_weight};
+ghost use Rattle.residual.specs.Balances.{HasRoom, HasNoExcess, IsSettled, surplus, total_start_flow, total_weight};
 ghost use Rattle.flow_solver.specs.Pushes.{IsAugmented};
-ghost use Rattle.flow_solver.specs.Searches.{AreSeeded};
 ghost use Rattle.flow_solver.specs.Rounds.{HasSlack, AreRounds};
 
-use crate::entries::Entry;
 use crate::pushes::{amount_along, push_along, raise};
-use crate::searches::{search, seed};
-use bud_base::{Problem, Steps};
+use crate::searches::{begin, has_excess, node_with_excess, search};
+use bud_base::{NodeId, Problem, Steps};
 use residual::Net;
+use search_heap::Search;
 use std::alloc::{AllocError, Global};
 use std::sync::ledger::Ledger;
 
-/// Settles excess: searches from the nodes that have some for one that lacks flow, and pushes along the way.
+/// Settles excess of a node: searches from there for one that lacks flow, and pushes along the way.
 fn augment<L: Ledger>(
     net: &mut Net,
     problem: &Problem,
-    entries: &mut [Option<Entry>],
+    node: NodeId,
+    front: &mut Search,
     steps: &mut Steps<L>,
 )
     requires sound { IsSound problem.now }
@@ -26,34 +26,82 @@ fn augment<L: Ledger>(
     requires lawful { IsLawful net.old }
     requires closed { net.old.is_open ≡ false }
     requires room { HasRoom net.old }
-    requires seeded { AreSeeded net.old entries.old }
-    requires some { (v : ℕ) × (v < length entries.old) × (pos 0 <ℤ excess_at net.old v) }
-    ensures { IsAugmented net.old net.new }
+    requires node { node.0 < net.old.nodes + 1 }
+    requires excess { pos 0 <ℤ excess_at net.old node.0 }
+    requires size { length front.old.entries ≡ net.old.nodes + 1 }
+    ensures augmented { IsAugmented net.old net.new }
+    ensures size { length front.new.entries ≡ net.old.nodes + 1 }
 {
-    let found = search(net, problem, entries, steps);
-    raise(net, problem.nodes, entries, found.distance);
-    let amount = amount_along(net, entries, found.node, steps);
-    push_along(net, entries, found.node, amount, steps);
+    begin(front, node);
+    let found = search(net, problem, front, steps);
+    raise(net, problem.nodes, front, found.distance);
+    let amount = amount_along(net, front, found.node, steps);
+    push_along(net, front, found.node, amount, steps);
 }
 
-/// Settles all excess.
-fn settle<L: Ledger>(
+/// Settles all excess of a node.
+fn settle_node<L: Ledger>(
     net: &mut Net,
     problem: &Problem,
-    entries: &mut [Option<Entry>],
+    node: NodeId,
+    front: &mut Search,
     steps: &mut Steps<L>,
 )
     requires sound { IsSound problem.now }
     requires fits { Fits net.old problem.now }
     requires closed { net.old.is_open ≡ false }
     requires slack { IsLawful net.old → HasSlack net.old }
-    requires size { length entries.old ≡ problem.now.nodes + 1 }
+    requires node { node.0 < net.old.nodes + 1 }
+    requires size { length front.old.entries ≡ net.old.nodes + 1 }
+    ensures rounds { AreRounds net.old net.new }
+    ensures lawful { IsLawful net.new }
+    ensures size { length front.new.entries ≡ net.old.nodes + 1 }
+    ensures less { pos 0 <ℤ excess_at net.old node.0 → surplus net.new <ℤ surplus net.old }
+{
+    'units: while has_excess(net, node) {
+        augment(net, problem, node, front, steps);
+    }
+}
+
+/// Settles all excess of each node but the root, one after another.
+fn settle_nodes<L: Ledger>(
+    net: &mut Net,
+    problem: &Problem,
+    front: &mut Search,
+    steps: &mut Steps<L>,
+)
+    requires sound { IsSound problem.now }
+    requires fits { Fits net.old problem.now }
+    requires closed { net.old.is_open ≡ false }
+    requires slack { IsLawful net.old → HasSlack net.old }
+    requires size { length front.old.entries ≡ net.old.nodes + 1 }
+    ensures rounds { AreRounds net.old net.new }
+    ensures size { length front.new.entries ≡ net.old.nodes + 1 }
+{
+    for node in 0..problem.nodes {
+        settle_node(net, problem, NodeId(node), front, steps);
+    }
+}
+
+/// Settles all excess.
+fn settle<L: Ledger>(
+    net: &mut Net,
+    problem: &Problem,
+    front: &mut Search,
+    steps: &mut Steps<L>,
+)
+    requires sound { IsSound problem.now }
+    requires fits { Fits net.old problem.now }
+    requires closed { net.old.is_open ≡ false }
+    requires slack { IsLawful net.old → HasSlack net.old }
+    requires size { length front.old.entries ≡ net.old.nodes + 1 }
     ensures rounds { AreRounds net.old net.new }
     ensures lawful { IsLawful net.new }
     ensures balanced { HasNoExcess net.new }
 {
-    'rounds: while seed(net, problem.nodes, entries) {
-        augment(net, problem, entries, steps);
+    'rounds: while let Some(node) = node_with_excess(net, problem.nodes) {
+        settle_node(net, problem, node, front, steps);
+        settle_nodes(net, problem, front, steps);
     }
 }
 
@@ -76,8 +124,8 @@ pub fn solve<L: Ledger>(
     ensures same { OnErr result (net.new ≡ net.old) }
     ensures steps { OnErr result (steps.new ≡ steps.old) }
 {
-    let mut entries = vec![in alloc; None; problem.nodes as usize + 1]?;
-    settle(net, problem, &mut entries, steps);
+    let mut front = Search::new(alloc, problem.nodes as usize + 1)?;
+    settle(net, problem, &mut front, steps);
     net.trim();
     Ok(())
 }

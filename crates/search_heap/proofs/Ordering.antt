@@ -126,7 +126,7 @@ pub nearer-waits : (o : Option ℕ) (distance before : ℤ) → is_nearer distan
 nearer-waits None distance before nearer = refl
 nearer-waits (Some k) distance before nearer = absurd (cc)
 
-nearer-less : (o : Option ℕ) (distance before : ℤ) → is_nearer distance (waits_at o) before ≡ true → distance <ℤ before
+pub nearer-less : (o : Option ℕ) (distance before : ℤ) → is_nearer distance (waits_at o) before ≡ true → distance <ℤ before
 nearer-less None distance before nearer = grind (arith, ints)
 nearer-less (Some k) distance before nearer = absurd (cc)
 

@@ -1,9 +1,10 @@
 use Rattle.flow_solver.specs.Entries.{place_at}
 use Rattle.flow_solver.specs.Pushes.{IsPushed}
+use Rattle.flow_solver.specs.Spreading.{entries_of}
 use Rattle.flow_solver.proofs.pushes.push_along.Given as goal
 
 abbrev pub invariant-way : goal.invariant-way
-invariant-way g l = IsPushed l.fn.net l.net l.entries l.fn.node.0 l.amount l.at.0
+invariant-way g l = IsPushed l.fn.net l.net (entries_of l.front.entries) l.fn.node.0 l.amount l.at.0
 
 abbrev pub decreases-way : goal.decreases-way
-decreases-way g l = place_at l.entries l.at.0
+decreases-way g l = place_at (entries_of l.front.entries) l.at.0

@@ -1,65 +1,80 @@
-use Rattle.std.proofs.Common.{◌≡◌, ℕ, ℤ, List, Option, pos, ◌+◌, ◌*◌, ◌^◌, ◌≤ℤ◌, false, length, to_z, of_z, w64, arith, refl, get_or-set_same}
+use Rattle.std.proofs.Common.{◌≡◌, ℕ, ℤ, List, Option, pos, ◌+◌, ◌^◌, ◌≤ℤ◌, false, length, to_z, of_z, arith, refl, ap}
 use mir.Syntax.{w128}
-use Rattle.std.specs.Prelude.{int_lt, None}
+use Rattle.std.specs.Prelude.{int_lt}
 use Rattle.std.proofs.lemmas.Int.{ints}
+use Rattle.bud_base.specs.Soundness.{IsSound}
 use Rattle.bud_base.specs.declared.problems.Problem.{Problem}
 use Rattle.residual.specs.Bounds.{IsWithin}
-use Rattle.residual.specs.Networks.{Network, IsLawful, Fits}
+use Rattle.residual.specs.Balances.{HasRoom}
+use Rattle.residual.specs.Networks.{Network, IsLawful, Fits, AreReduced}
+use Rattle.search_heap.specs.declared.entries.Entry.{Entry as Found}
+use Rattle.search_heap.specs.declared.entries.Near.{Near}
 use Rattle.flow_solver.specs.declared.entries.Entry.{Entry}
-use Rattle.flow_solver.specs.declared.entries.Candidate.{Candidate}
-use Rattle.flow_solver.proofs.Taking.{IsSearching-seeded, IsSearching-more, IsCandidate, IsCandidate-nearest, HaveSmallDistances-taken, AreTaken-more, nearest-exists, free_count-less}
+use Rattle.flow_solver.proofs.Spreading.{IsTakenNext, IsScanning-first}
+use Rattle.flow_solver.proofs.Taking.{next_of, near-within, size-after, taken-next, there-next, free_count-next, IsSearching-next, nearest-exists, free_count}
+use Rattle.flow_solver.proofs.Lifting.{last-within}
+use Rattle.flow_solver.specs.Spreading.{entries_of}
+use Rattle.flow_solver.proofs.Founds.{scanned-same}
 use Rattle.flow_solver.proofs.searches.search.Goals as goal
-
--- the number of keys
-keys : (net : Network) (p : Problem) (arcs : ℕ) → IsLawful net → Fits net p → arcs ≡ 2 * (length p.items + length p.items + length p.starts + length p.ends) → arcs ≡ 2 * length net.arcs
-keys net p arcs lawful fits is = omega (arith, is, lawful.sizes.arcs, fits.items, fits.starts, fits.ends)
-
-same_distance : (net : Network) (entries : List (Option Entry)) (c : Candidate) → IsCandidate net entries c → to_z w64 (of_z w64 c.distance) ≡ c.distance
-same_distance net entries c is_c = omega (arith, ints, is_c.within.low, is_c.within.high)
 
 no_lack : (result excess : ℤ) → result ≡ excess → IsWithin (pos (2 ^ 113)) result → int_lt (to_z w128 (of_z w128 result)) (pos 0) ≡ false → pos 0 ≤ℤ excess
 no_lack result excess is within test = let same : to_z w128 (of_z w128 result) ≡ result = omega (arith, ints, within.low, within.high) in grind (arith, ints)
 
-pub nodes-init : goal.nodes-init
-nodes-init g c = IsSearching-seeded c.args.net.now c.args.entries.now c.requires.seeded c.requires.reduced c.requires.some
-
-pub nearest-requires-clause-small : goal.nearest-requires-clause-small
-nearest-requires-clause-small g c =
-    HaveSmallDistances-taken c.args.net.now c.args.problem.now c.nodes.entries c.nodes.invariant.last c.nodes.place c.requires.sound c.requires.lawful c.requires.fits c.requires.room c.requires.reduced c.nodes.invariant.taken
+small : (net : Network) (p : Problem) (entries after : List (Option Entry)) (found : List (Option Found)) (near : Near) (count : ℕ) → IsSound p → IsLawful net → Fits net p → HasRoom net → AreReduced net net.potentials
+    → IsTakenNext net entries after found near count → IsWithin (pos (2 ^ 60)) near.distance
+small net p entries after found near count sound lawful fits room reduced next =
+    let one = last-within net p after near.distance (count + 1) sound lawful fits room reduced (taken-next net entries after found near count reduced next) in
+    record { low = omega (arith, ints, one.low); high = omega (arith, ints, one.high) }
 
 pub unreachable-requires : goal.unreachable-requires
 unreachable-requires g c =
-    nearest-exists c.args.net.now c.args.problem.now c.nodes.entries c.nodes.invariant.last c.nodes.place c.key_count-arcs.result c.requires.sound c.requires.lawful c.requires.fits c.requires.room c.nodes.invariant.taken
-    c.nodes.invariant.none (keys c.args.net.now c.args.problem.now c.key_count-arcs.result c.requires.lawful c.requires.fits c.key_count-arcs.ensures) c.in_default.ensures
+    nearest-exists c.args.net.now c.args.problem.now (entries_of c.nodes.front.entries) c.nodes.front.entries c.nodes.invariant.last (length c.nodes.front.taken) c.requires.sound c.requires.lawful c.requires.fits c.requires.room c.nodes.invariant.spread
+    c.nodes.invariant.none c.in_default.ensures.1
+
+
+
+pub excess-requires : goal.excess-requires
+excess-requires g c = near-within c.args.net.now (entries_of c.nodes.front.entries) c.nodes.front c.nearest.new.self c.in-Some.near c.nodes.invariant c.in-Some.ensures
 
 pub returns-then-excess-lt0-clause-taken : goal.returns-then-excess-lt0-clause-taken
 returns-then-excess-lt0-clause-taken g c =
-    let is_arcs = keys c.args.net.now c.args.problem.now c.key_count-arcs.result c.requires.lawful c.requires.fits c.key_count-arcs.ensures in
-    let small = HaveSmallDistances-taken c.args.net.now c.args.problem.now c.nodes.entries c.nodes.invariant.last c.nodes.place c.requires.sound c.requires.lawful c.requires.fits c.requires.room c.requires.reduced c.nodes.invariant.taken in
-    let is_c = IsCandidate-nearest c.args.net.now c.nodes.entries c.key_count-arcs.result c.in-Some.candidate c.requires.lawful c.nodes.invariant.taken.size small is_arcs c.in-Some.ensures in (
-      c.nodes.place + 1,
-      AreTaken-more c.args.net.now c.nodes.entries _ c.nodes.invariant.last _ c.nodes.place c.key_count-arcs.result c.in-Some.candidate c.requires.lawful c.requires.reduced c.nodes.invariant.taken
-          is_arcs c.in-Some.ensures (same_distance c.args.net.now c.nodes.entries c.in-Some.candidate is_c) refl,
-    )
+    let next = next_of c.args.net.now c.nodes.front c.nearest.new.self c.in-Some.near c.nodes.invariant c.in-Some.ensures in
+    (length c.nodes.front.taken + 1, taken-next c.args.net.now (entries_of c.nodes.front.entries) (entries_of c.nearest.new.self.entries) c.nearest.new.self.entries c.in-Some.near (length c.nodes.front.taken) c.requires.reduced next)
 
 pub returns-then-excess-lt0-clause-there : goal.returns-then-excess-lt0-clause-there
 returns-then-excess-lt0-clause-there g c =
-    let is_arcs = keys c.args.net.now c.args.problem.now c.key_count-arcs.result c.requires.lawful c.requires.fits c.key_count-arcs.ensures in
-    let small = HaveSmallDistances-taken c.args.net.now c.args.problem.now c.nodes.entries c.nodes.invariant.last c.nodes.place c.requires.sound c.requires.lawful c.requires.fits c.requires.room c.requires.reduced c.nodes.invariant.taken in
-    let is_c = IsCandidate-nearest c.args.net.now c.nodes.entries c.key_count-arcs.result c.in-Some.candidate c.requires.lawful c.nodes.invariant.taken.size small is_arcs c.in-Some.ensures in
-    (_, get_or-set_same c.nodes.entries c.in-Some.candidate.node.0 _ None is_c.there)
+    there-next c.args.net.now (entries_of c.nodes.front.entries) (entries_of c.nearest.new.self.entries) c.nearest.new.self.entries c.in-Some.near (length c.nodes.front.taken)
+    (next_of c.args.net.now c.nodes.front c.nearest.new.self c.in-Some.near c.nodes.invariant c.in-Some.ensures)
 
-pub nodes-smaller : goal.nodes-smaller
-nodes-smaller g c =
-    let is_arcs = keys c.args.net.now c.args.problem.now c.key_count-arcs.result c.requires.lawful c.requires.fits c.key_count-arcs.ensures in
-    let small = HaveSmallDistances-taken c.args.net.now c.args.problem.now c.nodes.entries c.nodes.invariant.last c.nodes.place c.requires.sound c.requires.lawful c.requires.fits c.requires.room c.requires.reduced c.nodes.invariant.taken in
-    let is_c = IsCandidate-nearest c.args.net.now c.nodes.entries c.key_count-arcs.result c.in-Some.candidate c.requires.lawful c.nodes.invariant.taken.size small is_arcs c.in-Some.ensures in
-    free_count-less c.args.net.now c.nodes.entries _ c.in-Some.candidate _ is_c refl
+pub returns-then-excess-lt0-clause-size : goal.returns-then-excess-lt0-clause-size
+returns-then-excess-lt0-clause-size g c = size-after c.args.net.now (entries_of c.nodes.front.entries) c.nodes.front c.nearest.new.self c.in-Some.near c.nodes.invariant c.in-Some.ensures
+
+pub scan-requires-clause-node : goal.scan-requires-clause-node
+scan-requires-clause-node g c = near-within c.args.net.now (entries_of c.nodes.front.entries) c.nodes.front c.nearest.new.self c.in-Some.near c.nodes.invariant c.in-Some.ensures
+
+pub scan-requires-clause-small : goal.scan-requires-clause-small
+scan-requires-clause-small g c =
+    small c.args.net.now c.args.problem.now (entries_of c.nodes.front.entries) (entries_of c.nearest.new.self.entries) c.nearest.new.self.entries c.in-Some.near (length c.nodes.front.taken) c.requires.sound c.requires.lawful c.requires.fits c.requires.room c.requires.reduced
+    (next_of c.args.net.now c.nodes.front c.nearest.new.self c.in-Some.near c.nodes.invariant c.in-Some.ensures)
+
+pub scan-requires-clause-room : goal.scan-requires-clause-room
+scan-requires-clause-room g c = size-after c.args.net.now (entries_of c.nodes.front.entries) c.nodes.front c.nearest.new.self c.in-Some.near c.nodes.invariant c.in-Some.ensures
 
 pub nodes-preserved : goal.nodes-preserved
 nodes-preserved g c =
-    let is_arcs = keys c.args.net.now c.args.problem.now c.key_count-arcs.result c.requires.lawful c.requires.fits c.key_count-arcs.ensures in
-    let small = HaveSmallDistances-taken c.args.net.now c.args.problem.now c.nodes.entries c.nodes.invariant.last c.nodes.place c.requires.sound c.requires.lawful c.requires.fits c.requires.room c.requires.reduced c.nodes.invariant.taken in
-    let is_c = IsCandidate-nearest c.args.net.now c.nodes.entries c.key_count-arcs.result c.in-Some.candidate c.requires.lawful c.nodes.invariant.taken.size small is_arcs c.in-Some.ensures in
-    IsSearching-more c.args.net.now c.nodes.entries _ c.nodes.place c.key_count-arcs.result c.in-Some.candidate _ c.requires.lawful c.requires.reduced small c.nodes.invariant is_arcs c.in-Some.ensures
-    (same_distance c.args.net.now c.nodes.entries c.in-Some.candidate is_c) refl (no_lack _ _ c.excess.ensures.excess c.excess.ensures.small c.if-excess-lt0.false)
+    let next = next_of c.args.net.now c.nodes.front c.nearest.new.self c.in-Some.near c.nodes.invariant c.in-Some.ensures in
+    IsSearching-next c.args.net.now (entries_of c.nodes.front.entries) c.nodes.front c.nearest.new.self c.scan.new.front c.in-Some.near _ next c.nodes.invariant.none
+    (no_lack _ _ c.excess.ensures.excess c.excess.ensures.small c.if-excess-lt0.false) c.in-Some.ensures.1 c.scan.ensures.taken refl
+    (c.scan.ensures.scanned (entries_of c.nearest.new.self.entries) (length c.nodes.front.taken + 1)
+    (IsScanning-first c.args.net.now (entries_of c.nodes.front.entries) (entries_of c.nearest.new.self.entries) c.nearest.new.self.entries c.in-Some.near (length c.nodes.front.taken) next))
+
+pub nodes-smaller : goal.nodes-smaller
+nodes-smaller g c =
+    let next = next_of c.args.net.now c.nodes.front c.nearest.new.self c.in-Some.near c.nodes.invariant c.in-Some.ensures in
+    omega (
+      arith,
+      free_count-next c.args.net.now (entries_of c.nodes.front.entries) (entries_of c.nearest.new.self.entries) c.nearest.new.self.entries c.in-Some.near (length c.nodes.front.taken) next,
+      ap free_count (scanned-same c.args.net.now (entries_of c.nearest.new.self.entries) c.scan.new.front.entries c.in-Some.near (length c.nodes.front.taken + 1) _
+      (c.scan.ensures.scanned (entries_of c.nearest.new.self.entries) (length c.nodes.front.taken + 1)
+      (IsScanning-first c.args.net.now (entries_of c.nodes.front.entries) (entries_of c.nearest.new.self.entries) c.nearest.new.self.entries c.in-Some.near (length c.nodes.front.taken) next))),
+    )

@@ -1,4 +1,4 @@
-use Rattle.std.proofs.Common.{◌≡◌, ◌+◌, ◌<◌, ◌^◌, ◌+ℤ◌, ◌-ℤ◌, ℕ, ℤ, List, Option, pos, to_z, of_z, w64, arith, sym, ap, subst}
+use Rattle.std.proofs.Common.{◌≡◌, ◌+◌, ◌<◌, ◌^◌, ◌+ℤ◌, ◌-ℤ◌, ℕ, ℤ, List, Option, pos, to_z, of_z, w64, arith, sym, ap, subst, ◌∙◌}
 use mir.Syntax.{w128}
 use Rattle.std.proofs.lemmas.Int.{ints}
 use Rattle.bud_base.specs.Soundness.{IsSound}
@@ -16,6 +16,8 @@ use Rattle.flow_solver.proofs.Taking.{distance-within}
 use Rattle.flow_solver.proofs.Lifting.{lifts-small, last-within, AreReduced-closed, AreReduced-raised, IsTree-lifted}
 use Rattle.flow_solver.proofs.Augments.{IsAugmented-pushed}
 use Rattle.flow_solver.specs.declared.entries.Entry.{Entry}
+use Rattle.flow_solver.specs.Spreading.{entries_of}
+use Rattle.flow_solver.proofs.Seeds.{IsSearching-seeded}
 use Rattle.flow_solver.proofs.solving.augment.Goals as goal
 
 same_last : (last : ℤ) → IsWithin (pos 8000000000000) last → to_z w64 (of_z w64 last) ≡ last
@@ -52,6 +54,10 @@ reduced_after net new p entries last told count lawful fits taken same lifted is
     AreReduced-raised net new (label_at entries told)
     (AreReduced-lifted net new.potentials (label_at entries told) lawful (subst T (sym same) taken).labelling (subst N (sym fits.nodes) lifted)) is
 
+pub search-found-requires-clause-searching : goal.search-found-requires-clause-searching
+search-found-requires-clause-searching g c =
+    IsSearching-seeded c.args.net.now c.begin.new.front c.args.node.0 c.begin.ensures.seeded (c.begin.ensures.room ∙ c.requires.size) c.requires.node c.requires.excess
+
 pub raise-requires-clause-labels : goal.raise-requires-clause-labels
 raise-requires-clause-labels g c =
     let reduced = AreReduced-closed c.args.net.now c.requires.lawful c.requires.closed in
@@ -84,16 +90,16 @@ pub push_along-requires-clause-reduced : goal.push_along-requires-clause-reduced
 push_along-requires-clause-reduced g c =
     let reduced = AreReduced-closed c.args.net.now c.requires.lawful c.requires.closed in
     let taken = c.search-found.ensures.taken in
-    reduced_after c.args.net.now c.raise.new.net c.args.problem.now c.search-found.new.entries _ _ taken.0 c.requires.lawful c.requires.fits taken.1
+    reduced_after c.args.net.now c.raise.new.net c.args.problem.now (entries_of c.search-found.new.front.entries) _ _ taken.0 c.requires.lawful c.requires.fits taken.1
     (same_last _ (last-within _ _ _ _ _ c.requires.sound c.requires.lawful c.requires.fits c.requires.room reduced taken.1)) c.raise.ensures.lifted c.raise.ensures.same
 
-pub returns : goal.returns
-returns g c =
+pub returns-clause-augmented : goal.returns-clause-augmented
+returns-clause-augmented g c =
     let reduced = AreReduced-closed c.args.net.now c.requires.lawful c.requires.closed in
     let taken = c.search-found.ensures.taken in
     let is_tree = tree c.args.net.now c.raise.new.net c.args.problem.now _ _ _ taken.0 c.requires.lawful c.requires.fits taken.1
     (same_last _ (last-within _ _ _ _ _ c.requires.sound c.requires.lawful c.requires.fits c.requires.room reduced taken.1)) c.raise.ensures.lifted c.raise.ensures.same in
     let pushed = c.push_along.ensures in
-    let A : ℤ → Type 0 = λ a. IsAmount c.raise.new.net c.search-found.new.entries c.search-found.result.node.0 a in
-    IsAugmented-pushed c.args.net.now c.raise.new.net c.push_along.new.net c.search-found.new.entries c.search-found.result.node.0 pushed.0 _ c.raise.ensures.same is_tree.size
+    let A : ℤ → Type 0 = λ a. IsAmount c.raise.new.net (entries_of c.search-found.new.front.entries) c.search-found.result.node.0 a in
+    IsAugmented-pushed c.args.net.now c.raise.new.net c.push_along.new.net (entries_of c.search-found.new.front.entries) c.search-found.result.node.0 pushed.0 _ c.raise.ensures.same is_tree.size
     (subst A (sym (same_amount _ c.amount_along-amount.ensures.small)) c.amount_along-amount.ensures.amount) pushed.1 pushed.2

@@ -1,6 +1,0 @@
-use Rattle.flow_solver.specs.Entries.{label_at}
-use Rattle.flow_solver.specs.Lifts.{AreLiftedBelow}
-use Rattle.flow_solver.proofs.pushes.raise.Given as goal
-
-abbrev pub invariant-loop-node : goal.invariant-loop-node
-invariant-loop-node l = AreLiftedBelow l.fn.net l.net (label_at l.entries l.last) l.node
