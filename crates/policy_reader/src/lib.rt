@@ -1,0 +1,9 @@
+//! The policy of a budget: its blocks, and the extra and the weight of arcs.
+#![tactic(auto)]
+
+mod lines;
+mod reader;
+#[cfg(test)]
+mod tests;
+
+pub use reader::{one_value, read_policy};
