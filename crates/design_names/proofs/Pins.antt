@@ -1,7 +1,7 @@
 -- The names of an elaborated netlist's pins are of graphic characters.
-use Rattle.std.proofs.Common.{◌≡◌, ℕ, suc, ◌+◌, ◌<◌, ◌≤◌, true, Option, Some, None, Ok, List, [], ◌∷◌, ◌++◌, map, length, get_or, All, refl, sym, ap, ◌∙◌, subst, arith}
-use Rattle.std.specs.List.{flat_map, join_with_byte, range_with_len}
-use Rattle.std.proofs.lemmas.List.Elements.{All-nil, All-cons, All-append, All-head, All-tail, All-map}
+use Rattle.std.proofs.Common.{◌≡◌, ℕ, suc, ◌<◌, true, Option, Some, None, List, [], ◌∷◌, ◌++◌, map, length, get_or, All, refl, sym, subst, arith}
+use Rattle.std.specs.List.{flat_map, join_with_byte}
+use Rattle.std.proofs.lemmas.List.Elements.{All-nil, All-append, All-head, All-tail, All-map}
 use Rattle.std.proofs.lemmas.List.Concat.{flat_map-cons}
 use Rattle.bud_syntax.specs.declared.modules.Module.{Module}
 use Rattle.bud_syntax.specs.declared.modules.Port.{Port}
@@ -12,13 +12,13 @@ use Rattle.bud_design.specs.DesignRules.{is_identifier}
 use Rattle.bud_design.specs.Names.{printed, bit_name}
 use Rattle.bud_design.proofs.NameLaws.{IsShort}
 use Rattle.module_nets.specs.Nets.{PortBit, port_bits, range_bits}
-use Rattle.elaborations.specs.Elaborations.{elaborated, IsFlatDesign, module_of, pins_at}
+use Rattle.elaborations.specs.Elaborations.{IsFlatDesign, module_of, pins_at}
 use Rattle.elaborations.specs.Walks.{pins_of_module, pins_in, IsInstanceTree}
 use Rattle.elaborations.proofs.Lists.{All-flat_map}
 use Rattle.elaborations.proofs.Trees.{elaborated_tree}
 use Rattle.std.specs.Str.{bytes_eq}
 use Rattle.netlist_names.specs.Identifiers.{HasIdentifiers}
-use Rattle.design_names.proofs.Texts.{Graphic, printed-identifier, identifier-graphic, identifier-of, bit_name-graphic, bit_name-some, join-graphic, join-some}
+use Rattle.design_names.proofs.Texts.{printed-identifier, identifier-graphic, identifier-of, bit_name-graphic, bit_name-some, join-graphic, join-some}
 use Rattle.design_names.proofs.Places.{IsPrintedName, find-all, way-graphic}
 
 -- a pin of a place below this number, with a port whose name is an identifier
@@ -54,7 +54,7 @@ module _ (modules : List Module) (names : All HasIdentifiers modules) (places : 
       by_module (Some m) is = pins-named (length places) p m below (find-all HasIdentifiers (λ n. bytes_eq (printed n.name) (place_at places p).«module») modules m names is)
 
   all-pins : All (IsNamedPin (length places)) pins
-  all-pins = subst (All (IsNamedPin (length places))) (sym tree.pins_are) (All-flat_map (IsNamedPin (length places)) (pins_in modules places) 0 (length places) (λ p low high. place-pins p high))
+  all-pins = subst (All (IsNamedPin (length places))) (sym tree.pins_are) (All-flat_map (IsNamedPin (length places)) (pins_in modules places) 0 (length places) (λ p low high. place-pins p (omega (arith, high))))
 
   name-graphic : (place : ℕ) (port : List ℕ) (bit : Option ℕ) → place < length places → IsPrintedName port → IsShort bit → is_identifier (join_with_byte 47 (way_down places 0 place ++ bit_name port bit ∷ [])) ≡ true
   name-graphic place port bit within is short =

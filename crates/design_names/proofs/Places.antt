@@ -1,9 +1,10 @@
 -- The names on the way down to a place are identifiers in printed form.
-use Rattle.std.proofs.Common.{◌≡◌, ℕ, zero, suc, ◌+◌, ◌<◌, ◌≤◌, ◌==◌, Bool, true, false, Option, Some, None, List, [], ◌∷◌, ◌++◌, filter, map, find, length, get_or, All, refl, sym, ap, ◌∙◌, subst, arith, inl, inr, ◌⊎◌, true≢false, eq-eqb, if◌then◌else◌}
+use Rattle.std.proofs.Common.{◌≡◌, ◌≢◌, ℕ, zero, suc, ◌+◌, ◌<◌, ◌≤◌, ◌==◌, Bool, true, false, Option, Some, None, List, [], ◌∷◌, ◌++◌, filter, find, length, get_or, All, refl, sym, ap, ◌∙◌, subst, arith, inl, inr, ◌⊎◌, true≢false, eq-eqb}
 use Rattle.std.specs.List.{AllByRecursion, AllZip, range_with_len}
 use Rattle.std.specs.Str.{bytes_eq}
 use Rattle.std.proofs.lemmas.List.{get_or_default}
-use Rattle.std.proofs.lemmas.List.Elements.{All-nil, All-cons, All-append, All-head, All-tail}
+use Rattle.std.proofs.lemmas.Bool.Decides.{Decides-eqb}
+use Rattle.std.proofs.lemmas.List.Elements.{All-nil, All-head, All-tail}
 use Rattle.text_scan.proofs.Binds.{by_test}
 use Rattle.bud_syntax.specs.declared.modules.Instance.{Instance}
 use Rattle.bud_syntax.specs.declared.modules.Module.{Module}
@@ -13,8 +14,7 @@ use Rattle.bud_design.specs.Designs.{place_at, way_down}
 use Rattle.bud_design.specs.DesignRules.{is_identifier, HasParent, HasPrintedForm}
 use Rattle.bud_design.specs.Names.{printed}
 use Rattle.module_nets.specs.Nets.{same_number}
-use Rattle.elaborations.specs.Elaborations.{module_of}
-use Rattle.elaborations.specs.Walks.{children, StandsFor, IsFilled, HasItsParent, HasInside, IsInstanceTree}
+use Rattle.elaborations.specs.Walks.{children, StandsFor, HasInside, IsInstanceTree}
 use Rattle.flat_design.specs.Flats.{ArePlaces}
 use Rattle.flat_design.proofs.FrontLaws.{is_below, is_top, way_down-more}
 use Rattle.netlist_names.specs.Identifiers.{HasIdentifiers}
@@ -27,24 +27,28 @@ find-all P test (y ∷ ys) x all is = by_test (test y)
     (λ passes. let same : y ≡ x = let found : Some y ≡ Some x = rw passes at is in cc in subst P same (All-head P y ys all))
     (λ fails. find-all P test ys x (All-tail P y ys all) (rw fails at is))
 
+apart-number : (m n : ℕ) → (m == n) ≡ false → m ≢ n
+apart-number m n apart same = true≢false (sym (eq-eqb m n same) ∙ apart)
+
 -- of the numbers that pass a test, each stands beside an element
 beside : {X : Type 0} (P : X → Type 0) (R : X → ℕ → Type 0) (test : ℕ → Bool) (xs : List X) (from n p : ℕ) → All P xs → AllZip R xs (filter test (range_with_len from n)) → from ≤ p → p < from + n → test p ≡ true
     → (x : X) × (P x × R x p)
-beside P R test xs from zero p all zip low high is = absurd (omega (arith, low, high))
-beside P R test xs from (suc n) p all zip low high is = by_test (test from)
-    (λ passes. leading xs all (rw passes at zip))
+beside {X} P R test xs from zero p all zip low high is = absurd (omega (arith, low, high))
+beside {X} P R test xs from (suc n) p all zip low high is = by_test (test from)
+    (λ passes. leading xs all (rw passes at zip) (λ ys others behind less. beside P R test ys (from + 1) n p others behind less (omega (arith, high)) is))
     (λ fails. beside P R test xs (from + 1) n p all (rw fails at zip) (later fails) (omega (arith, high)) is)
   where
     later : test from ≡ false → from + 1 ≤ p
     later fails = by_test (from == p)
-        (λ same. absurd (true≢false (sym is ∙ (ap test (sym (eqb-eq from p same)) ∙ fails))))
-        (λ apart. omega (arith, low, eqb-apart from p apart))
+        (λ same. absurd (true≢false (sym is ∙ (ap test (sym ((Decides-eqb from p).0 same)) ∙ fails))))
+        (λ apart. omega (arith, low, apart-number from p apart))
 
-    leading : (xs : List X) → All P xs → AllZip R xs (from ∷ filter test (range_with_len (from + 1) n)) → (x : X) × (P x × R x p)
-    leading [] all zip = absurd zip
-    leading (x ∷ xs) all zip = by_test (from == p)
-        (λ same. (x, (All-head P x xs all, subst (R x) (eqb-eq from p same) zip.0)))
-        (λ apart. beside P R test xs (from + 1) n p (All-tail P x xs all) zip.1 (omega (arith, low, eqb-apart from p apart)) (omega (arith, high)) is)
+    leading : (xs : List X) → All P xs → AllZip R xs (from ∷ filter test (range_with_len (from + 1) n))
+        → ((ys : List X) → All P ys → AllZip R ys (filter test (range_with_len (from + 1) n)) → from + 1 ≤ p → (x : X) × (P x × R x p)) → (x : X) × (P x × R x p)
+    leading [] all zip behind = absurd zip
+    leading (x ∷ xs) all zip behind = by_test (from == p)
+        (λ same. (x, (All-head P x xs all, subst (R x) ((Decides-eqb from p).0 same) zip.0)))
+        (λ apart. behind xs (All-tail P x xs all) zip.1 (omega (arith, low, apart-number from p apart)))
 
 -- ---- places
 -- a name is the printed form of an identifier
@@ -73,9 +77,9 @@ module _ (modules : List Module) (names : All HasIdentifiers modules) (places : 
   named-in : (q p : ℕ) → p < length places → (place_at places p).parent ≡ Some q → (leaf : Bool) (m : Module) → HasIdentifiers m → HasInside leaf modules places m (children places q 0 (length places)) → IsPrintedName (place_at places p).name
   named-in q p below parent true m fine inside =
       absurd (beside Nothing Never (λ r. same_number (place_at places r).parent (Some q)) [] 0 (length places) p (All-nil Nothing) (subst (AllZip Never []) (sym inside) tt)
-      (omega arith) below (parent-is (place_at places p).parent q parent)).1.1
+      (omega arith) (omega (arith, below)) (parent-is (place_at places p).parent q parent)).1.1
   named-in q p below parent false m fine inside =
-      let found = beside IsNamed (StandsFor modules places) (λ r. same_number (place_at places r).parent (Some q)) m.instances 0 (length places) p fine.instances inside.0 (omega arith) below (parent-is (place_at places p).parent q parent) in
+      let found = beside IsNamed (StandsFor modules places) (λ r. same_number (place_at places r).parent (Some q)) m.instances 0 (length places) p fine.instances inside.0 (omega arith) (omega (arith, below)) (parent-is (place_at places p).parent q parent) in
       record { identifier = found.0.name; is_such = found.1.0; name_is = found.1.1.name }
 
   -- where its parent is, and where that stands
@@ -106,7 +110,7 @@ module _ (modules : List Module) (names : All HasIdentifiers modules) (places : 
       rw its.1.0 (named.identifier, named.name_is)
 
   pub are-places : ArePlaces places
-  are-places = record { parents = has-parent; forms = λ p default below. at_place p default below }
+  are-places = record { top = tree.some; parents = has-parent; forms = λ p default below. at_place p default below }
     where
       at_place : (p : ℕ) (default : Place) → p < length places → HasPrintedForm (get_or places p default).parent (get_or places p default).name
       at_place p default below = subst (λ x. HasPrintedForm x.parent x.name) (get_or_default places p (place_at [] 0) default below) (has-form p below)

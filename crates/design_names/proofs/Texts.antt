@@ -1,5 +1,5 @@
 -- What is printed of graphic characters is of graphic characters.
-use Rattle.std.proofs.Common.{◌≡◌, ℕ, zero, suc, ◌+◌, ◌<◌, ◌≤◌, ◌==◌, ◌&&◌, ◌^◌, ◌%◌, nat_lt, nat_le, Bool, true, false, Option, Some, None, List, [], ◌∷◌, ◌++◌, length, decimal, length-append, refl, sym, ap, ◌∙◌, subst, arith, true≢false, if◌then◌else◌}
+use Rattle.std.proofs.Common.{◌≡◌, ℕ, ◌+◌, ◌<◌, ◌≤◌, ◌&&◌, ◌^◌, ◌%◌, nat_lt, nat_le, Bool, true, false, Option, Some, None, List, [], ◌∷◌, ◌++◌, length, decimal, length-append, refl, sym, ◌∙◌, arith, true≢false, if◌then◌else◌}
 use Rattle.std.specs.List.{list_all, join_with_byte, AllByRecursion}
 use Rattle.std.proofs.lemmas.List.Folds.{list_all-append}
 use Rattle.std.proofs.lemmas.Fmt.{decimal_by_steps}
@@ -22,23 +22,23 @@ graphic-append xs ys one two = list_all-append is_graphic xs ys ∙ rw (one, two
 
 pub printed-graphic : (xs : List ℕ) → Graphic xs → Graphic (printed xs)
 printed-graphic [] all = refl
-printed-graphic (b ∷ bs) all = by_kind (is_ordinary b)
+printed-graphic (b ∷ bs) all = (let both = and-both (is_graphic b) (list_all is_graphic bs) all in by_kind (is_ordinary b) both.0 (printed-graphic bs both.1))
   where
-    both : (is_graphic b ≡ true) × Graphic bs
-    both = and-both (is_graphic b) (list_all is_graphic bs) all
+    by_kind : (o : Bool) → is_graphic b ≡ true → Graphic (printed bs) → Graphic (if o then b ∷ printed bs else 92 ∷ b ∷ printed bs)
+    by_kind true one others = rw (one, others) refl
+    by_kind false one others = rw (one, others) refl
 
-    by_kind : (o : Bool) → Graphic (if o then b ∷ printed bs else 92 ∷ b ∷ printed bs)
-    by_kind true = rw (both.0, printed-graphic bs both.1) refl
-    by_kind false = rw (both.0, printed-graphic bs both.1) refl
+has-one : (b : ℕ) (bs : List ℕ) → nat_lt 0 (length (b ∷ bs)) ≡ true
+has-one b bs = grind (arith)
 
 -- a text of graphic characters that has one
 pub identifier-of : (xs : List ℕ) → 0 < length xs → Graphic xs → is_identifier xs ≡ true
 identifier-of [] some all = absurd (omega (arith, some))
-identifier-of (b ∷ bs) some all = all
+identifier-of (b ∷ bs) some all = rw (has-one b bs) all
 
 pub identifier-graphic : (xs : List ℕ) → is_identifier xs ≡ true → (0 < length xs) × Graphic xs
 identifier-graphic [] is = absurd (true≢false (sym is))
-identifier-graphic (b ∷ bs) is = (omega arith, is)
+identifier-graphic (b ∷ bs) is = (omega arith, (and-both (nat_lt 0 (length (b ∷ bs))) (list_all is_graphic (b ∷ bs)) is).1)
 
 printed-some : (xs : List ℕ) → 0 < length xs → 0 < length (printed xs)
 printed-some [] some = some
@@ -53,7 +53,7 @@ printed-identifier xs is = let both = identifier-graphic xs is in identifier-of 
 
 -- ---- numbers of bits
 graphic-byte : (b : ℕ) → 33 ≤ b → b ≤ 126 → is_graphic b ≡ true
-graphic-byte b low high = omega (arith, low, high)
+graphic-byte b low high = grind (arith, low, high)
 
 digit-graphic : (n : ℕ) → n < 10 → Graphic ((48 + n) ∷ [])
 digit-graphic n small = rw (graphic-byte (48 + n) (omega arith) (omega (arith, small))) refl
