@@ -1,5 +1,5 @@
 -- The entries of the nodes that were taken, as they stand among what was found.
-use Rattle.std.proofs.Common.{◌≡◌, ℕ, ℤ, ◌+◌, ◌<◌, List, [], ◌∷◌, length, map, set, Option, Some, None, zero, suc, arith, refl, ap, sym, ◌∙◌, get_or-set_same}
+use Rattle.std.proofs.Common.{◌≡◌, ℕ, ℤ, ◌<◌, List, [], ◌∷◌, length, set, Option, Some, None, zero, suc, arith, refl, ap, sym, ◌∙◌, get_or-set_same}
 use Rattle.std.proofs.lemmas.List.{ext_get_or, map-set, length-map}
 use Rattle.residual.specs.Networks.{Network}
 use Rattle.search_heap.specs.Offers.{IsTakenAt}

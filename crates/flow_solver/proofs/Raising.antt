@@ -12,9 +12,9 @@ use Rattle.search_heap.proofs.Offering.{entry-within}
 use Rattle.search_heap.specs.declared.entries.Entry.{Entry as Found}
 use Rattle.flow_solver.specs.Entries.{entry_at, label_of, label_at}
 use Rattle.flow_solver.specs.Lifts.{AreLifted, IsLiftedAt, with_potentials}
-use Rattle.flow_solver.specs.Spreading.{found_at, taken_of, entries_of}
+use Rattle.flow_solver.specs.Spreading.{found_at, entries_of}
 use Rattle.flow_solver.proofs.Founds.{entry-of}
-use Rattle.flow_solver.proofs.Spreading.{IsFoundAs, taken_of-found, taken_of-taken}
+use Rattle.flow_solver.proofs.Spreading.{taken_of-found, taken_of-taken}
 use Rattle.flow_solver.specs.declared.entries.Entry.{Entry}
 
 none_some : {A : Type 0} (o : Option A) (x : A) → o ≡ None → o ≡ Some x → ⊥

@@ -1,5 +1,5 @@
 -- Where a search begins.
-use Rattle.std.proofs.Common.{◌≡◌, ◌≢◌, ℕ, ℤ, pos, ◌≤ℤ◌, ◌<ℤ◌, ◌+◌, ◌<◌, List, [], length, set, Option, Some, None, arith, refl, ap, sym, subst, ◌∙◌, inl, inr, get_or-set_same, get_or-set_other}
+use Rattle.std.proofs.Common.{◌≡◌, ℕ, pos, ◌<ℤ◌, ◌+◌, ◌<◌, List, length, set, Option, Some, None, arith, refl, ap, sym, subst, ◌∙◌, inl, inr, get_or-set_same, get_or-set_other}
 use Rattle.std.proofs.lemmas.Int.{ints}
 use Rattle.std.proofs.lemmas.Bool.{cases_eq}
 use Rattle.std.proofs.Math.ListN.{length-set}
@@ -8,10 +8,9 @@ use Rattle.search_heap.specs.Entries.{fresh, reached_by}
 use Rattle.search_heap.specs.Searches.{Searched, IsEmptied}
 use Rattle.search_heap.specs.declared.entries.Entry.{Entry as Found}
 use Rattle.flow_solver.specs.Entries.{entry_at}
-use Rattle.flow_solver.specs.Searches.{NoneLacks, IsSeeded, IsSearching}
+use Rattle.flow_solver.specs.Searches.{IsSeeded, IsSearching}
 use Rattle.flow_solver.specs.Spreading.{found_at, taken_of, entries_of, HasReason, IsSpread, Every}
 use Rattle.flow_solver.proofs.Founds.{entry-of, length-entries}
-use Rattle.flow_solver.specs.declared.entries.Entry.{Entry}
 
 none_some : {A : Type 0} (o : Option A) (x : A) → o ≡ None → o ≡ Some x → ⊥
 none_some o x none some = cc

@@ -1,5 +1,5 @@
 -- Searches while nodes are found and taken.
-use Rattle.std.proofs.Common.{◌≡◌, ◌≢◌, ℕ, ℤ, pos, ◌+ℤ◌, ◌≤ℤ◌, ◌<ℤ◌, ◌+◌, ◌*◌, ◌<◌, ◌≤◌, ◌⊎◌, List, length, get_or, set, Option, Some, None, arith, refl, ap, sym, subst, ◌∙◌, inl, inr, cond, Bool, true, false, get_or-set_same, get_or-set_other}
+use Rattle.std.proofs.Common.{◌≡◌, ◌≢◌, ℕ, ℤ, pos, ◌+ℤ◌, ◌≤ℤ◌, ◌<ℤ◌, ◌+◌, ◌*◌, ◌<◌, ◌⊎◌, List, length, get_or, set, Option, Some, None, arith, refl, ap, sym, subst, ◌∙◌, inl, inr, cond, Bool, true, false, get_or-set_same, get_or-set_other}
 use Rattle.std.specs.Prelude.{int_lt}
 use Rattle.std.proofs.lemmas.Int.{ints}
 use Rattle.std.proofs.lemmas.Bool.{cases_eq}
@@ -7,7 +7,7 @@ use Rattle.std.proofs.lemmas.List.{set-get_or}
 use Rattle.std.proofs.Math.ListN.{length-set}
 use Rattle.residual.specs.Arcs.{reduced_cost}
 use Rattle.residual.specs.Leaving.{leaving}
-use Rattle.residual.specs.Networks.{Network, IsKey, residual, AreReduced, excess_at}
+use Rattle.residual.specs.Networks.{Network, IsKey, residual, AreReduced}
 use Rattle.residual.proofs.Leaving.{leaving-is, leaving-each}
 use Rattle.search_heap.specs.Entries.{waits_at, is_nearer, fresh, reached_by}
 use Rattle.search_heap.specs.Offers.{IsTakenAt}
@@ -15,9 +15,9 @@ use Rattle.search_heap.proofs.Offering.{entry-within}
 use Rattle.search_heap.proofs.Ordering.{nearer-waits, nearer-less}
 use Rattle.search_heap.specs.declared.entries.Entry.{Entry as Found}
 use Rattle.search_heap.specs.declared.entries.Near.{Near}
-use Rattle.flow_solver.specs.Entries.{entry_at, label_of, label_at, IsLabelling, HasCauseBy, IsEntry}
+use Rattle.flow_solver.specs.Entries.{entry_at, label_of, label_at, IsLabelling, HasCauseBy}
 use Rattle.flow_solver.specs.Searches.{AreTaken}
-use Rattle.flow_solver.specs.Spreading.{found_at, taken_at, taken_of, IsFoundOver, HasReason, IsFoundWithin, HasBegun, IsSpread, Every, IsScanned, IsScanning, looked_along}
+use Rattle.flow_solver.specs.Spreading.{found_at, taken_at, taken_of, IsFoundOver, HasReason, IsFoundWithin, IsSpread, Every, IsScanned, IsScanning, looked_along}
 use Rattle.flow_solver.proofs.Ways.{from_of-residual}
 use Rattle.flow_solver.specs.declared.entries.Entry.{Entry}
 

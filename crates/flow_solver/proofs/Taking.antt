@@ -1,5 +1,5 @@
 -- Nodes that are taken one after another, each the nearest.
-use Rattle.std.proofs.Common.{◌≡◌, ℕ, ℤ, pos, ◌+ℤ◌, ◌≤ℤ◌, ◌<ℤ◌, ◌+◌, ◌*◌, ◌<◌, ◌^◌, List, [], ◌∷◌, ◌++◌, length, set, Option, Some, None, arith, refl, ap, sym, subst, ◌∙◌, inl, inr, zero, suc, get_or-set_same, get_or-set_other}
+use Rattle.std.proofs.Common.{◌≡◌, ℕ, ℤ, pos, ◌≤ℤ◌, ◌+◌, ◌<◌, List, [], ◌∷◌, ◌++◌, length, set, Option, Some, None, arith, ap, sym, subst, ◌∙◌, inl, inr, zero, suc, get_or-set_same, get_or-set_other}
 use Rattle.std.proofs.lemmas.Int.{ints}
 use Rattle.std.proofs.lemmas.Bool.{cases_eq}
 use Rattle.std.proofs.lemmas.List.{length_push}
@@ -7,8 +7,7 @@ use Rattle.std.proofs.Math.ListN.{length-set}
 use Rattle.bud_base.specs.Soundness.{IsSound}
 use Rattle.bud_base.specs.declared.problems.Problem.{Problem}
 use Rattle.residual.specs.Bounds.{IsWithin}
-use Rattle.residual.specs.Arcs.{reduced_cost}
-use Rattle.residual.specs.Networks.{Network, IsKey, residual, AreReduced, IsLawful, Fits, excess_at}
+use Rattle.residual.specs.Networks.{Network, residual, AreReduced, IsLawful, Fits, excess_at}
 use Rattle.residual.specs.Balances.{HasRoom}
 use Rattle.residual.proofs.Balance.{excess_of-total, sum_below-at_least}
 use Rattle.residual.proofs.Theory.{IsClosed, IsClosed-all}

@@ -84,12 +84,7 @@ fn settle_nodes<L: Ledger>(
 }
 
 /// Settles all excess.
-fn settle<L: Ledger>(
-    net: &mut Net,
-    problem: &Problem,
-    front: &mut Search,
-    steps: &mut Steps<L>,
-)
+fn settle<L: Ledger>(net: &mut Net, problem: &Problem, front: &mut Search, steps: &mut Steps<L>)
     requires sound { IsSound problem.now }
     requires fits { Fits net.old problem.now }
     requires closed { net.old.is_open ≡ false }

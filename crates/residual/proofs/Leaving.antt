@@ -1,11 +1,10 @@
 -- Lists of the residual arcs that leave each node.
-use Rattle.std.proofs.Common.{◌≡◌, ◌≢◌, ◌==◌, ℕ, ℤ, ◌+◌, ◌*◌, ◌/◌, ◌%◌, ◌<◌, ◌≤◌, ◌++◌, Bool, true, false, cond, List, [], ◌∷◌, length, get_or, set, replicate, zero, suc, arith, refl, ap, sym, subst, ◌∙◌, inl, inr, eq-eqb, add-one, get_or-set_same, get_or-set_other}
-use Rattle.std.proofs.lemmas.Bool.{cases_eq, cases_lt, ne_eqb}
+use Rattle.std.proofs.Common.{◌≡◌, ◌≢◌, ℕ, ◌+◌, ◌*◌, ◌<◌, ◌++◌, cond, List, [], ◌∷◌, length, get_or, set, replicate, zero, suc, arith, refl, ap, sym, subst, ◌∙◌, inl, inr, eq-eqb, get_or-set_same, get_or-set_other}
+use Rattle.std.proofs.lemmas.Bool.{cases_eq, ne_eqb}
 use Rattle.std.proofs.lemmas.List.{get_or_append_left, get_or_push, length_push, append-nil}
 use Rattle.std.proofs.Math.ListN.{length-set}
-use Rattle.bud_flow.specs.Sums.{number_at}
 use Rattle.arc_lists.specs.KeyLists.{keys_at}
-use Rattle.residual.specs.Arcs.{arc_at, residual_of, residual_at}
+use Rattle.residual.specs.Arcs.{arc_at}
 use Rattle.residual.specs.Leaving.{tail_of, leaving_below, AreListed}
 use Rattle.residual.proofs.Pairs.{residual_at-arc, residual_at-reverse}
 use Rattle.residual.specs.declared.arcs.Arc.{Arc}

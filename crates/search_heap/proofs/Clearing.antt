@@ -1,5 +1,5 @@
 -- Entries that are taken away.
-use Rattle.std.proofs.Common.{◌≡◌, ◌≢◌, ℕ, ◌+◌, ◌<◌, List, length, set, Option, Some, None, arith, refl, ap, sym, subst, ◌∙◌, inl, inr, get_or-set_same, get_or-set_other}
+use Rattle.std.proofs.Common.{◌≡◌, ℕ, ◌+◌, ◌<◌, List, length, set, Option, Some, None, arith, ap, sym, ◌∙◌, inl, inr, get_or-set_same, get_or-set_other}
 use Rattle.std.proofs.lemmas.Bool.{cases_eq}
 use Rattle.search_heap.specs.Entries.{entry_at}
 use Rattle.search_heap.specs.Clearing.{AreCleared}

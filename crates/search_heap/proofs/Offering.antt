@@ -6,7 +6,7 @@ use Rattle.std.proofs.lemmas.Bool.{cases_eq, cases_lt}
 use Rattle.std.proofs.lemmas.List.{get_or_past}
 use Rattle.std.proofs.Math.ListN.{length-set}
 use Rattle.search_heap.specs.Entries.{entry_at, fresh}
-use Rattle.search_heap.specs.Heaps.{near_at, far, IsHeap, ArePlaced}
+use Rattle.search_heap.specs.Heaps.{near_at, far, ArePlaced}
 use Rattle.search_heap.specs.Offers.{IsOffered, HasOffer, AreOffered, IsHeaped, IsFarther, IsTakenAt}
 use Rattle.search_heap.specs.declared.entries.Entry.{Entry}
 use Rattle.search_heap.specs.declared.entries.Near.{Near}

@@ -1,13 +1,12 @@
 -- The order in which nodes were taken.
 use Rattle.std.proofs.Common.{◌≡◌, ◌≢◌, ℕ, ℤ, pos, ◌+◌, ◌<◌, ◌≤◌, ◌++◌, Bool, true, false, List, [], ◌∷◌, length, get_or, set, take, ◌<ℤ◌, Option, Some, None, zero, suc, cond, arith, refl, ap, sym, subst, ◌∙◌, inl, inr, get_or-set_same, get_or-set_other}
 use Rattle.std.proofs.lemmas.Int.{ints}
-use Rattle.std.proofs.lemmas.Bool.{cases_eq, cases_lt}
-use Rattle.std.proofs.lemmas.List.{get_or_append_left, get_or_push, length_push, get_or_past, get_or-take, length-take-le, set-get_or}
+use Rattle.std.proofs.lemmas.Bool.{cases_eq}
+use Rattle.std.proofs.lemmas.List.{get_or_append_left, get_or_push, length_push, get_or-take, length-take-le, set-get_or}
 use Rattle.bud_base.specs.declared.ids.NodeId.{NodeId}
-use Rattle.std.specs.Prelude.{int_lt}
 use Rattle.search_heap.specs.Entries.{entry_at, free_count, waits_at, is_nearer, fresh, reached_by}
-use Rattle.search_heap.specs.Searches.{node_at, IsTakenNode, AreInOrder, NoneWaits}
-use Rattle.search_heap.specs.Offers.{AreOffered, IsHeaped, IsFarther, IsTakenAt}
+use Rattle.search_heap.specs.Searches.{node_at, AreInOrder, NoneWaits}
+use Rattle.search_heap.specs.Offers.{AreOffered, IsFarther, IsTakenAt}
 use Rattle.search_heap.specs.Clearing.{AreCleared}
 use Rattle.search_heap.specs.Heaps.{near_at}
 use Rattle.search_heap.specs.declared.entries.Entry.{Entry}

@@ -1,8 +1,7 @@
 -- Offers that rise or sink, one exchange after another.
-use Rattle.std.proofs.Common.{◌≡◌, ℕ, ◌+◌, ◌<◌, ◌≤◌, ◌≤ℤ◌, ◌<ℤ◌, List, length, set, Option, Some, None, arith, refl}
+use Rattle.std.proofs.Common.{◌≡◌, ℕ, ◌<◌, ◌<ℤ◌, List, length, set, Option, Some, arith, refl}
 use Rattle.std.specs.List.{SwappedAt}
-use Rattle.std.proofs.lemmas.Int.{ints}
-use Rattle.search_heap.specs.Heaps.{near_at, far, IsBelow, IsHeap, IsHeapBut, IsNearEnough, IsFarEnough, IsNearestBelow, ArePlaced}
+use Rattle.search_heap.specs.Heaps.{near_at, far, IsBelow, IsHeapBut, IsNearEnough, IsFarEnough, IsNearestBelow, ArePlaced}
 use Rattle.search_heap.specs.Offers.{AreOffered}
 use Rattle.search_heap.specs.declared.entries.Entry.{Entry}
 use Rattle.search_heap.specs.declared.entries.Near.{Near}

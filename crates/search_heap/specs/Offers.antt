@@ -1,5 +1,5 @@
 -- Offers of the nodes whose entries wait.
-use Rattle.std.specs.Prelude.{◌≡◌, ◌≢◌, ℕ, ℤ, ◌+◌, ◌<◌, ◌≤ℤ◌, ◌<ℤ◌, Option, Some, None, List, length, slice_index_or, slice_set}
+use Rattle.std.specs.Prelude.{◌≡◌, ℕ, ℤ, ◌<◌, ◌≤ℤ◌, ◌<ℤ◌, Option, Some, None, List, length, slice_index_or, slice_set}
 use Rattle.search_heap.specs.Entries.{entry_at}
 use Rattle.search_heap.specs.Heaps.{near_at, far, IsHeap}
 use Rattle.search_heap.specs.declared.entries.Entry.{Entry}

@@ -1,4 +1,4 @@
-use Rattle.std.proofs.Common.{◌≡◌, ◌-ℤ◌, ℕ, ℤ, pos, ◌+◌, ◌<◌, ◌^◌, to_z, of_z, w64, length, arith, refl, sym, ap, ◌∙◌}
+use Rattle.std.proofs.Common.{◌≡◌, ◌-ℤ◌, ℤ, pos, ◌<◌, ◌^◌, to_z, of_z, w64, length, arith, refl, ap, ◌∙◌}
 use Rattle.std.proofs.lemmas.Int.{ints}
 use Rattle.residual.specs.Bounds.{IsWithin}
 use Rattle.flow_solver.specs.Entries.{label_at}

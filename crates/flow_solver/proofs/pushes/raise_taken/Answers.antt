@@ -1,6 +1,5 @@
-use Rattle.std.proofs.Common.{◌≡◌, ◌-ℤ◌, ◌+ℤ◌, ℕ, ℤ, pos, ◌+◌, ◌<◌, ◌^◌, to_z, of_z, w64, List, length, arith, sym, ap, subst, ◌∙◌}
+use Rattle.std.proofs.Common.{◌≡◌, ℕ, ℤ, pos, ◌<◌, ◌^◌, to_z, of_z, w64, length, arith, sym, ap, subst, ◌∙◌}
 use Rattle.std.proofs.lemmas.Int.{ints}
-use Rattle.bud_flow.specs.Sums.{number_at}
 use Rattle.residual.specs.Bounds.{IsWithin}
 use Rattle.residual.specs.Networks.{Network}
 use Rattle.flow_solver.specs.Entries.{label_at}

@@ -1,4 +1,4 @@
-use Rattle.std.proofs.Common.{◌≡◌, ℕ, pos, ◌≤ℤ◌, refl, arith, sym, subst, inl, inr}
+use Rattle.std.proofs.Common.{ℕ, pos, ◌≤ℤ◌, refl, arith, sym, subst, inl, inr}
 use Rattle.std.proofs.lemmas.Bool.{cases_eq}
 use Rattle.residual.specs.Networks.{excess_at}
 use Rattle.flow_solver.proofs.searches.node_with_excess.Goals as goal

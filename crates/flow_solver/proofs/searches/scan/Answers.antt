@@ -1,4 +1,4 @@
-use Rattle.std.proofs.Common.{◌≡◌, ℕ, ◌+◌, ◌<◌, List, Option, length, arith, subst, ◌∙◌}
+use Rattle.std.proofs.Common.{◌≡◌, ℕ, length, arith, subst, ◌∙◌}
 use Rattle.residual.specs.Leaving.{leaving}
 use Rattle.flow_solver.specs.Spreading.{IsScanning}
 use Rattle.flow_solver.proofs.Looking.{AreLookedAlong-none, AreLookedAlong-more, IsKey-leaving}

@@ -31,8 +31,6 @@ unreachable-requires g c =
     nearest-exists c.args.net.now c.args.problem.now (entries_of c.nodes.front.entries) c.nodes.front.entries c.nodes.invariant.last (length c.nodes.front.taken) c.requires.sound c.requires.lawful c.requires.fits c.requires.room c.nodes.invariant.spread
     c.nodes.invariant.none c.in_default.ensures.1
 
-
-
 pub excess-requires : goal.excess-requires
 excess-requires g c = near-within c.args.net.now (entries_of c.nodes.front.entries) c.nodes.front c.nearest.new.self c.in-Some.near c.nodes.invariant c.in-Some.ensures
 
@@ -75,6 +73,6 @@ nodes-smaller g c =
       arith,
       free_count-next c.args.net.now (entries_of c.nodes.front.entries) (entries_of c.nearest.new.self.entries) c.nearest.new.self.entries c.in-Some.near (length c.nodes.front.taken) next,
       ap free_count (scanned-same c.args.net.now (entries_of c.nearest.new.self.entries) c.scan.new.front.entries c.in-Some.near (length c.nodes.front.taken + 1) _
-      (c.scan.ensures.scanned (entries_of c.nearest.new.self.entries) (length c.nodes.front.taken + 1)
-      (IsScanning-first c.args.net.now (entries_of c.nodes.front.entries) (entries_of c.nearest.new.self.entries) c.nearest.new.self.entries c.in-Some.near (length c.nodes.front.taken) next))),
+          (c.scan.ensures.scanned (entries_of c.nearest.new.self.entries) (length c.nodes.front.taken + 1)
+          (IsScanning-first c.args.net.now (entries_of c.nodes.front.entries) (entries_of c.nearest.new.self.entries) c.nearest.new.self.entries c.in-Some.near (length c.nodes.front.taken) next))),
     )

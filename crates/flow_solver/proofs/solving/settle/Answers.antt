@@ -1,7 +1,6 @@
-use Rattle.std.proofs.Common.{◌≡◌, ◌+◌, ◌<◌, ℕ, arith, refl, ◌∙◌}
+use Rattle.std.proofs.Common.{arith}
 use Rattle.std.proofs.lemmas.Int.{ints}
-use Rattle.residual.specs.Balances.{surplus}
-use Rattle.flow_solver.proofs.Augments.{Fits-same, AreRounds-none, AreRounds-further, HasNoExcess-none, size-falls}
+use Rattle.flow_solver.proofs.Augments.{AreRounds-none, AreRounds-further, HasNoExcess-none, size-falls}
 use Rattle.flow_solver.proofs.solving.settle.Goals as goal
 
 pub rounds-init : goal.rounds-init

@@ -1,6 +1,6 @@
-use Rattle.std.proofs.Common.{◌≡◌, ◌+◌, ◌<◌, ℕ, arith, refl, ◌∙◌, inl, inr}
+use Rattle.std.proofs.Common.{arith, refl, inl, inr}
 use Rattle.std.proofs.lemmas.Int.{ints}
-use Rattle.flow_solver.proofs.Augments.{HasRoom-slack, Fits-same, AreRounds-none, AreRounds-augmented, surplus-falls}
+use Rattle.flow_solver.proofs.Augments.{HasRoom-slack, AreRounds-none, AreRounds-augmented, surplus-falls}
 use Rattle.flow_solver.proofs.solving.settle_node.Goals as goal
 
 pub units-init : goal.units-init

@@ -1,5 +1,5 @@
-use Rattle.std.proofs.Common.{◌≡◌, ◌+◌, ◌<◌, ℕ, arith, ◌∙◌}
-use Rattle.flow_solver.proofs.Augments.{Fits-same, AreRounds-none, AreRounds-further}
+use Rattle.std.proofs.Common.{arith}
+use Rattle.flow_solver.proofs.Augments.{AreRounds-none, AreRounds-further}
 use Rattle.flow_solver.proofs.solving.settle_nodes.Goals as goal
 
 pub loop-node-init : goal.loop-node-init

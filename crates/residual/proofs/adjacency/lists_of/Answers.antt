@@ -1,4 +1,4 @@
-use Rattle.std.proofs.Common.{◌≡◌, ◌+◌, ◌*◌, ℕ, List, length, arith, subst}
+use Rattle.std.proofs.Common.{◌+◌, ◌*◌, ℕ, arith, subst}
 use Rattle.residual.specs.Arcs.{arc_at}
 use Rattle.residual.specs.Leaving.{AreListed}
 use Rattle.residual.proofs.Leaving.{AreListed-none, AreListed-more, tail_of-arc, tail_of-reverse}

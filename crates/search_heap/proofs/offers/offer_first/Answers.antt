@@ -1,7 +1,6 @@
-use Rattle.std.proofs.Common.{◌≡◌, ◌≢◌, ◌+◌, ℕ, arith, length, set, Some, ap, ◌∙◌, get_or-set_other}
+use Rattle.std.proofs.Common.{arith, set, Some, ap}
 use Rattle.std.proofs.Math.ListN.{length-set}
 use Rattle.search_heap.specs.Heaps.{far}
-use Rattle.search_heap.specs.declared.entries.Near.{Near}
 use Rattle.search_heap.proofs.HeapOrder.{IsHeapBut-appended, IsNearEnough-appended}
 use Rattle.search_heap.proofs.Offering.{ArePlaced-offered, AreOffered-first, far-set}
 use Rattle.search_heap.proofs.offers.offer_first.Goals as goal

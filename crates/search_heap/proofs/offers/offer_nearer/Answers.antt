@@ -1,4 +1,4 @@
-use Rattle.std.proofs.Common.{ℕ, arith, length, set, Some, refl, ap}
+use Rattle.std.proofs.Common.{arith, set, Some, refl, ap}
 use Rattle.std.proofs.Math.ListN.{length-set}
 use Rattle.search_heap.specs.Heaps.{far}
 use Rattle.search_heap.proofs.HeapOrder.{IsHeapBut-replaced, IsNearEnough-replaced}

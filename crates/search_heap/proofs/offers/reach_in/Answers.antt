@@ -1,4 +1,4 @@
-use Rattle.std.proofs.Common.{arith, ap, sym, ◌∙◌}
+use Rattle.std.proofs.Common.{arith, ap, sym}
 use Rattle.search_heap.specs.Entries.{free_count, fresh}
 use Rattle.search_heap.proofs.Ordering.{free_count-first, free_count-again, free_count-some, IsFarther-nearer, reached-first, reached-nearer, reached-kept}
 use Rattle.search_heap.proofs.offers.reach_in.Goals as goal

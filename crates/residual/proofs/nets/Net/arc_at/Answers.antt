@@ -1,4 +1,4 @@
-use Rattle.std.proofs.Common.{◌≡◌, ◌+◌, ◌<◌, ℕ, List, length, get_or, arith, ap, sym, subst, ◌∙◌}
+use Rattle.std.proofs.Common.{◌+◌, ◌<◌, ℕ, List, length, get_or, arith, ap, sym, subst, ◌∙◌}
 use Rattle.residual.specs.Leaving.{leaving}
 use Rattle.residual.specs.Networks.{Network}
 use Rattle.residual.proofs.nets.Net.arc_at.Goals as goal

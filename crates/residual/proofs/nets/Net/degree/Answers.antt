@@ -1,4 +1,4 @@
-use Rattle.std.proofs.Common.{◌≡◌, ◌+◌, ◌<◌, ℕ, length, arith, ap, sym, subst, ◌∙◌}
+use Rattle.std.proofs.Common.{◌+◌, ◌<◌, length, arith, ap, sym, subst, ◌∙◌}
 use Rattle.residual.specs.Leaving.{leaving}
 use Rattle.residual.specs.Networks.{Network}
 use Rattle.residual.proofs.nets.Net.degree.Goals as goal

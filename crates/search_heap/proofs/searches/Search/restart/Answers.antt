@@ -1,4 +1,4 @@
-use Rattle.std.proofs.Common.{◌≡◌, length, take, arith, ap, refl, sym, subst, ◌∙◌}
+use Rattle.std.proofs.Common.{length, ap, refl, ◌∙◌}
 use Rattle.std.specs.Vec.{with_items}
 use Rattle.std.proofs.lemmas.List.{with_items_is}
 use Rattle.search_heap.specs.Searches.{Searched}
