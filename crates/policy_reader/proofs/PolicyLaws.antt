@@ -1,7 +1,6 @@
 -- What is read is in the grammar, and all that is in the grammar is read.
-use Rattle.std.proofs.Common.{◌≡◌, ℕ, Option, Some, None, Result, Ok, Err, List, [], ◌∷◌, refl, ap, ◌∙◌, subst, codes}
+use Rattle.std.proofs.Common.{◌≡◌, ℕ, Option, Some, None, Result, Ok, Err, List, [], ◌∷◌, refl, ap, subst, codes}
 use Rattle.std.proofs.lemmas.Option.{same_Some}
-use Rattle.text_scan.specs.Left.{Left, ◌>>=◌}
 use Rattle.text_scan.proofs.Binds.{step, same_value}
 use Rattle.line_text.specs.Parts.{Row, rows_of}
 use Rattle.line_text.specs.Answers.{FailsText, UnlessMemory, IsSyntax}

@@ -5,12 +5,12 @@ use Rattle.std.proofs.lemmas.Int.{ints}
 use Rattle.std.proofs.lemmas.Bool.{and_parts}
 use Rattle.std.proofs.lemmas.Option.{same_Some}
 use Rattle.std.proofs.lemmas.List.Elements.{All-nil, All-cons}
-use Rattle.text_scan.specs.Left.{Left, ◌>>=◌, next, end_of}
+use Rattle.text_scan.specs.Left.{Left, next, end_of}
 use Rattle.text_scan.proofs.Binds.{step, by_test}
 use Rattle.bud_base.specs.declared.texts.TextFault.{TextFault}
 use Rattle.bud_design.specs.declared.policies.Policy.{Policy}
 use Rattle.bud_design.specs.declared.policies.PolicyLine.{PolicyLine}
-use Rattle.line_text.specs.Parts.{Part, Row, rows_of}
+use Rattle.line_text.specs.Parts.{Part, Row}
 use Rattle.line_text.specs.Numbers.{whole, count, whole_of, is_within, unsigned, word}
 use Rattle.line_text.specs.Names.{name}
 use Rattle.line_text.specs.Lines.{Each}
@@ -19,7 +19,7 @@ use Rattle.policy_reader.specs.declared.lines.Amounts.{Amounts}
 use Rattle.policy_reader.specs.declared.lines.Kind.{Kind}
 use Rattle.policy_reader.specs.declared.lines.Kind.TheVariants.{Block, Default, Inst, Arc}
 use Rattle.policy_reader.specs.Lines as lines
-use Rattle.policy_reader.specs.Policies.{IsPolicy, IsReadAnswer, HasRanges, IsInRange}
+use Rattle.policy_reader.specs.Policies.{IsReadAnswer, HasRanges, IsInRange}
 
 -- a number that is read is in its range
 whole_range : (least most n : ℤ) (line rest : Left Part) → least ≤ℤ most → whole least most line ≡ Some (n, rest) → (least ≤ℤ n) × (n ≤ℤ most)
