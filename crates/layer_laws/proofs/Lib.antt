@@ -1,0 +1,3 @@
+pub mod OneClasses
+pub mod OneLayering
+pub mod DesignBudgets
