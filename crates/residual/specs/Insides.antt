@@ -13,8 +13,8 @@ network_of net = record {
   ends = net.ends;
   arcs = net.arcs.items;
   flows = net.flows.items;
-  kept = net.kept.items;
-  potentials = net.potentials.items;
+  kept = net.potentials.kept;
+  potentials = net.potentials.present;
   is_open = net.is_open;
 }
 

@@ -1,4 +1,4 @@
-ghost use Rattle.std.specs.Prelude.{◌≡◌, ℕ, ◌==◌, ◌*◌, ◌/◌, ◌%◌, ◌<◌, ◌+ℤ◌, ◌^◌, ◌++◌, pos, false, slice_set, length, map, All, IfOk};
+ghost use Rattle.std.specs.Prelude.{◌≡◌, ℕ, ◌==◌, ◌*◌, ◌/◌, ◌%◌, ◌<◌, ◌+ℤ◌, ◌^◌, ◌++◌, pos, slice_set, length, map, All, IfOk};
 ghost use Rattle.bud_flow.specs.Sums.{number_at};
 ghost use Rattle.residual.specs.Arcs.{arc_at, residual_of, residual_at, CanCarry, limited_arc, open_arc, start_arc, end_arc, HasSmallTimes, CarryAll, JoinBelow, IsBetween, first_flow};
 ghost use Rattle.residual.specs.Bounds.{IsWithin, IsSmall, AllWithin};
@@ -141,26 +141,6 @@ pub fn forward_amount(key: usize, amount: i128) -> i128
     if key % 2 == 0 { amount } else { -amount }
 }
 
-/// Keeps the potentials at the end of a round.
-pub fn keep(kept: &mut [i64], potentials: &[i64], is_open: bool)
-    requires size { length potentials.now ≡ length kept.old }
-    requires closed { is_open ≡ false → potentials.now ≡ kept.old }
-    ensures { kept.new ≡ potentials.now }
-{
-    if is_open {
-        kept.copy_from_slice(potentials);
-    }
-}
-
-/// Adds a lift to the potential at a place.
-pub fn lift_at(potentials: &mut [i64], place: usize, by: i64)
-    requires place { place < length potentials.old }
-    requires small { IsSmall (number_at potentials.old place +ℤ by) }
-    ensures { potentials.new ≡ slice_set potentials.old place (number_at potentials.old place +ℤ by) }
-{
-    potentials[place] += by;
-}
-
 /// The arc of an item with room for its weight.
 fn limited_of(item: &Item) -> Arc
     requires { HasSmallTimes item.now }
@@ -266,11 +246,4 @@ pub fn first_flows(
         .chain(starts.iter().map(|_| 0i128))
         .chain(ends.iter().map(|_| 0i128))
         .collect(alloc)
-}
-
-/// The same times once more.
-pub fn copied(alloc: Global, times: &[i64]) -> Result<Vec<i64>, AllocError>
-    ensures { IfOk result (λ copy. copy.items ≡ times.now) }
-{
-    times.iter().copied().collect(alloc)
 }

@@ -3,14 +3,15 @@ ghost use Rattle.bud_flow.specs.Sums.{number_at};
 
 use crate::adjacency::lists_of;
 use crate::arcs::{
-    Arc, Look, add_at, arcs_of, copied, excesses_of, first_flows, forward_amount, keep, lift_at,
-    look_at, move_excess, number_in,
+    Arc, Look, add_at, arcs_of, excesses_of, first_flows, forward_amount, look_at, move_excess,
+    number_in,
 };
 use crate::arrivals::least_arrivals;
 use crate::comparisons::{are_ends, are_limited, are_open, are_starts};
 use crate::walks::{Way, no_ways, trim_flows};
 use arc_lists::ArcLists;
 use bud_base::{ItemId, NodeId, Problem, Steps};
+use node_potentials::Potentials;
 use std::alloc::{AllocError, Global};
 use std::marker::Model;
 use std::sync::ledger::Ledger;
@@ -27,8 +28,7 @@ pub struct Net {
     excess: Vec<i128>,
     /// The residual arcs that leave each node and the root.
     lists: ArcLists,
-    kept: Vec<i64>,
-    potentials: Vec<i64>,
+    potentials: Potentials,
     is_open: bool,
     /// Room for the marks of `trim`, one a node and one for the root.
     ways: Vec<Option<Way>>,
@@ -70,13 +70,13 @@ impl Net {
         let items = problem.items.as_slice();
         let starts = problem.starts.as_slice();
         let ends = problem.ends.as_slice();
-        let potentials = least_arrivals(alloc, problem)?;
-        let kept = copied(alloc, &potentials)?;
+        let arrivals = least_arrivals(alloc, problem)?;
         let arcs = arcs_of(alloc, NodeId(problem.nodes), items, starts, ends)?;
-        let flows = first_flows(alloc, &potentials, items, starts, ends)?;
+        let flows = first_flows(alloc, &arrivals, items, starts, ends)?;
         let excess = excesses_of(alloc, problem.nodes as usize + 1, &arcs, &flows)?;
         let lists = lists_of(alloc, problem.nodes as usize + 1, &arcs)?;
         let ways = no_ways(alloc, problem.nodes as usize + 1)?;
+        let potentials = Potentials::new(alloc, arrivals)?;
         Ok(Net {
             nodes: problem.nodes,
             items: items.len(),
@@ -86,7 +86,6 @@ impl Net {
             flows,
             excess,
             lists,
-            kept,
             potentials,
             is_open: false,
             ways,
@@ -164,7 +163,7 @@ impl Net {
         ensures small { IsSmall result }
         ensures lawful { IsLawful self.now }
     {
-        self.potentials[node.0 as usize]
+        self.potentials.potential_of(node)
     }
 
     /// The flow over the item's two arcs.
@@ -199,7 +198,8 @@ impl Net {
         ensures lifted { self.new ≡ record self.old { potentials = slice_set self.old.potentials node.0 (number_at self.old.potentials node.0 +ℤ by); is_open = true } }
         ensures lawful { IsLawful self.new }
     {
-        lift_at(&mut self.potentials, node.0 as usize, by);
+        let lifted = self.potentials.potential_of(node) + by;
+        self.potentials.put(node, lifted);
         self.is_open = true;
     }
 
@@ -213,7 +213,7 @@ impl Net {
         ensures pushed { self.new ≡ record self.old { flows = flows_after self.old.flows arc amount; kept = self.old.potentials; is_open = false } }
         ensures lawful { IsLawful self.new }
     {
-        keep(&mut self.kept, &self.potentials, self.is_open);
+        self.potentials.keep();
         self.is_open = false;
         let pair = arc / 2;
         let amount = forward_amount(arc, amount);

@@ -1,4 +1,4 @@
-use Rattle.std.proofs.Common.{◌≡◌, ◌+◌, ◌++◌, ◌^◌, ℤ, pos, List, map, sym, ◌∙◌, subst}
+use Rattle.std.proofs.Common.{◌≡◌, ◌+◌, ◌++◌, ◌^◌, ℤ, pos, List, map, refl, sym, subst}
 use Rattle.bud_base.specs.Paths.{least_of}
 use Rattle.bud_base.specs.declared.problems.Item.{Item}
 use Rattle.bud_base.specs.declared.problems.Start.{Start}
@@ -16,7 +16,7 @@ use Rattle.residual.proofs.nets.Net.new.Goals as goal
 
 pub first_flows-requires-clause-small : goal.first_flows-requires-clause-small
 first_flows-requires-clause-small c =
-    subst (AllWithin (pos (2 ^ 60))) (sym c.deref-2.ensures.value) (AllWithin-reached c.args.problem.now c.in_ok-potentials.potentials.items c.requires.sound c.requires.meets c.in_ok-potentials.ensures.reached)
+    subst (AllWithin (pos (2 ^ 60))) (sym c.deref.ensures.value) (AllWithin-reached c.args.problem.now c.in_ok-arrivals.arrivals.items c.requires.sound c.requires.meets c.in_ok-arrivals.ensures.reached)
 
 lists : (p : Problem) (items : List Item) (starts : List Start) (ends : List End) (arcs : List Arc) (flows kept shared potentials : List ℤ) → items ≡ p.items → starts ≡ p.starts → ends ≡ p.ends
     → arcs ≡ map limited_arc items ++ map open_arc items ++ map (start_arc p.nodes) starts ++ map (end_arc p.nodes) ends → shared ≡ potentials
@@ -33,59 +33,59 @@ lists p items starts ends arcs flows kept shared potentials same_items same_star
 -- the lists of the new network, as they stand behind its excesses
 pub excesses_of-requires-clause-nodes : goal.excesses_of-requires-clause-nodes
 excesses_of-requires-clause-nodes c =
-    let fresh = lists c.args.problem.now _ _ _ c.in_ok-arcs.arcs.items c.in_ok-flows.flows.items c.in_ok-kept.kept.items c.deref-2.result.now c.in_ok-potentials.potentials.items
-    c.as_slice-items.ensures c.as_slice-starts.ensures c.as_slice-ends.ensures c.in_ok-arcs.ensures c.deref-2.ensures.value c.in_ok-flows.ensures
-    (c.in_ok-kept.ensures ∙ c.deref.ensures.value) c.in_ok-potentials.ensures.reached c.in_ok-potentials.ensures.suit in
+    let fresh = lists c.args.problem.now _ _ _ c.in_ok-arcs.arcs.items c.in_ok-flows.flows.items c.in_ok-arrivals.arrivals.items c.deref.result.now c.in_ok-arrivals.arrivals.items
+    c.as_slice-items.ensures c.as_slice-starts.ensures c.as_slice-ends.ensures c.in_ok-arcs.ensures c.deref.ensures.value c.in_ok-flows.ensures
+    refl c.in_ok-arrivals.ensures.reached c.in_ok-arrivals.ensures.suit in
     let lawful = IsLawful-fresh c.args.problem.now _ _ _ _ c.requires.sound c.requires.meets fresh in
-    subst (JoinBelow (c.args.problem.now.nodes + 1)) (sym c.deref-3.ensures.value) lawful.sizes.joins
+    subst (JoinBelow (c.args.problem.now.nodes + 1)) (sym c.deref-2.ensures.value) lawful.sizes.joins
 
 pub lists_of-requires-clause-nodes : goal.lists_of-requires-clause-nodes
 lists_of-requires-clause-nodes c =
-    let fresh = lists c.args.problem.now _ _ _ c.in_ok-arcs.arcs.items c.in_ok-flows.flows.items c.in_ok-kept.kept.items c.deref-2.result.now c.in_ok-potentials.potentials.items
-    c.as_slice-items.ensures c.as_slice-starts.ensures c.as_slice-ends.ensures c.in_ok-arcs.ensures c.deref-2.ensures.value c.in_ok-flows.ensures
-    (c.in_ok-kept.ensures ∙ c.deref.ensures.value) c.in_ok-potentials.ensures.reached c.in_ok-potentials.ensures.suit in
+    let fresh = lists c.args.problem.now _ _ _ c.in_ok-arcs.arcs.items c.in_ok-flows.flows.items c.in_ok-arrivals.arrivals.items c.deref.result.now c.in_ok-arrivals.arrivals.items
+    c.as_slice-items.ensures c.as_slice-starts.ensures c.as_slice-ends.ensures c.in_ok-arcs.ensures c.deref.ensures.value c.in_ok-flows.ensures
+    refl c.in_ok-arrivals.ensures.reached c.in_ok-arrivals.ensures.suit in
     let lawful = IsLawful-fresh c.args.problem.now _ _ _ _ c.requires.sound c.requires.meets fresh in
-    subst (JoinBelow (c.args.problem.now.nodes + 1)) (sym c.deref-5.ensures.value) lawful.sizes.joins
+    subst (JoinBelow (c.args.problem.now.nodes + 1)) (sym c.deref-4.ensures.value) lawful.sizes.joins
 
 pub excesses_of-requires-clause-flows : goal.excesses_of-requires-clause-flows
 excesses_of-requires-clause-flows c =
-    let fresh = lists c.args.problem.now _ _ _ c.in_ok-arcs.arcs.items c.in_ok-flows.flows.items c.in_ok-kept.kept.items c.deref-2.result.now c.in_ok-potentials.potentials.items
-    c.as_slice-items.ensures c.as_slice-starts.ensures c.as_slice-ends.ensures c.in_ok-arcs.ensures c.deref-2.ensures.value c.in_ok-flows.ensures
-    (c.in_ok-kept.ensures ∙ c.deref.ensures.value) c.in_ok-potentials.ensures.reached c.in_ok-potentials.ensures.suit in
+    let fresh = lists c.args.problem.now _ _ _ c.in_ok-arcs.arcs.items c.in_ok-flows.flows.items c.in_ok-arrivals.arrivals.items c.deref.result.now c.in_ok-arrivals.arrivals.items
+    c.as_slice-items.ensures c.as_slice-starts.ensures c.as_slice-ends.ensures c.in_ok-arcs.ensures c.deref.ensures.value c.in_ok-flows.ensures
+    refl c.in_ok-arrivals.ensures.reached c.in_ok-arrivals.ensures.suit in
     let lawful = IsLawful-fresh c.args.problem.now _ _ _ _ c.requires.sound c.requires.meets fresh in
-    let P : List Arc → Type 0 = λ arcs. CarryAll arcs c.deref-4.result.now in
+    let P : List Arc → Type 0 = λ arcs. CarryAll arcs c.deref-3.result.now in
     let Q : List ℤ → Type 0 = λ flows. CarryAll c.in_ok-arcs.arcs.items flows in
-    subst P (sym c.deref-3.ensures.value) (subst Q (sym c.deref-4.ensures.value) lawful.flows)
+    subst P (sym c.deref-2.ensures.value) (subst Q (sym c.deref-3.ensures.value) lawful.flows)
 
 pub returns-clause-lawful : goal.returns-clause-lawful
 returns-clause-lawful c =
-    let fresh = lists c.args.problem.now _ _ _ c.in_ok-arcs.arcs.items c.in_ok-flows.flows.items c.in_ok-kept.kept.items c.deref-2.result.now c.in_ok-potentials.potentials.items
-    c.as_slice-items.ensures c.as_slice-starts.ensures c.as_slice-ends.ensures c.in_ok-arcs.ensures c.deref-2.ensures.value c.in_ok-flows.ensures
-    (c.in_ok-kept.ensures ∙ c.deref.ensures.value) c.in_ok-potentials.ensures.reached c.in_ok-potentials.ensures.suit in
-    rw (c.as_slice-items.ensures, c.as_slice-starts.ensures, c.as_slice-ends.ensures) (IsLawful-fresh c.args.problem.now _ _ _ _ c.requires.sound c.requires.meets fresh)
+    let fresh = lists c.args.problem.now _ _ _ c.in_ok-arcs.arcs.items c.in_ok-flows.flows.items c.in_ok-arrivals.arrivals.items c.deref.result.now c.in_ok-arrivals.arrivals.items
+    c.as_slice-items.ensures c.as_slice-starts.ensures c.as_slice-ends.ensures c.in_ok-arcs.ensures c.deref.ensures.value c.in_ok-flows.ensures
+    refl c.in_ok-arrivals.ensures.reached c.in_ok-arrivals.ensures.suit in
+    rw (c.in_ok-potentials.ensures.kept, c.in_ok-potentials.ensures.present, c.as_slice-items.ensures, c.as_slice-starts.ensures, c.as_slice-ends.ensures) (IsLawful-fresh c.args.problem.now _ _ _ _ c.requires.sound c.requires.meets fresh)
 
 pub returns-clause-fits : goal.returns-clause-fits
 returns-clause-fits c =
-    let fresh = lists c.args.problem.now _ _ _ c.in_ok-arcs.arcs.items c.in_ok-flows.flows.items c.in_ok-kept.kept.items c.deref-2.result.now c.in_ok-potentials.potentials.items
-    c.as_slice-items.ensures c.as_slice-starts.ensures c.as_slice-ends.ensures c.in_ok-arcs.ensures c.deref-2.ensures.value c.in_ok-flows.ensures
-    (c.in_ok-kept.ensures ∙ c.deref.ensures.value) c.in_ok-potentials.ensures.reached c.in_ok-potentials.ensures.suit in
-    rw (c.as_slice-items.ensures, c.as_slice-starts.ensures, c.as_slice-ends.ensures) (Fits-fresh c.args.problem.now _ _ _ _ fresh)
+    let fresh = lists c.args.problem.now _ _ _ c.in_ok-arcs.arcs.items c.in_ok-flows.flows.items c.in_ok-arrivals.arrivals.items c.deref.result.now c.in_ok-arrivals.arrivals.items
+    c.as_slice-items.ensures c.as_slice-starts.ensures c.as_slice-ends.ensures c.in_ok-arcs.ensures c.deref.ensures.value c.in_ok-flows.ensures
+    refl c.in_ok-arrivals.ensures.reached c.in_ok-arrivals.ensures.suit in
+    rw (c.in_ok-potentials.ensures.kept, c.in_ok-potentials.ensures.present, c.as_slice-items.ensures, c.as_slice-starts.ensures, c.as_slice-ends.ensures) (Fits-fresh c.args.problem.now _ _ _ _ fresh)
 
 pub returns-clause-fresh : goal.returns-clause-fresh
 returns-clause-fresh c =
-    let fresh = lists c.args.problem.now _ _ _ c.in_ok-arcs.arcs.items c.in_ok-flows.flows.items c.in_ok-kept.kept.items c.deref-2.result.now c.in_ok-potentials.potentials.items
-    c.as_slice-items.ensures c.as_slice-starts.ensures c.as_slice-ends.ensures c.in_ok-arcs.ensures c.deref-2.ensures.value c.in_ok-flows.ensures
-    (c.in_ok-kept.ensures ∙ c.deref.ensures.value) c.in_ok-potentials.ensures.reached c.in_ok-potentials.ensures.suit in
-    rw (c.as_slice-items.ensures, c.as_slice-starts.ensures, c.as_slice-ends.ensures) (IsFresh-fresh c.args.problem.now _ _ _ _ fresh)
+    let fresh = lists c.args.problem.now _ _ _ c.in_ok-arcs.arcs.items c.in_ok-flows.flows.items c.in_ok-arrivals.arrivals.items c.deref.result.now c.in_ok-arrivals.arrivals.items
+    c.as_slice-items.ensures c.as_slice-starts.ensures c.as_slice-ends.ensures c.in_ok-arcs.ensures c.deref.ensures.value c.in_ok-flows.ensures
+    refl c.in_ok-arrivals.ensures.reached c.in_ok-arrivals.ensures.suit in
+    rw (c.in_ok-potentials.ensures.kept, c.in_ok-potentials.ensures.present, c.as_slice-items.ensures, c.as_slice-starts.ensures, c.as_slice-ends.ensures) (IsFresh-fresh c.args.problem.now _ _ _ _ fresh)
 
 pub invariant_of-result : goal.invariant_of-result
 invariant_of-result c =
-    let P : List Arc → Type 0 = λ arcs. AreExcesses arcs c.deref-4.result.now c.in_ok-excess.excess.items in
+    let P : List Arc → Type 0 = λ arcs. AreExcesses arcs c.deref-3.result.now c.in_ok-excess.excess.items in
     let Q : List ℤ → Type 0 = λ flows. AreExcesses c.in_ok-arcs.arcs.items flows c.in_ok-excess.excess.items in
     record {
       lawful = returns-clause-lawful c;
       excess_size = c.in_ok-excess.ensures.size;
-      listed = rw (← c.deref-5.ensures.value) c.in_ok-lists.ensures;
+      listed = rw (← c.deref-4.ensures.value) c.in_ok-lists.ensures;
       ways = c.in_ok-ways.ensures;
-      excesses = subst Q c.deref-4.ensures.value (subst P c.deref-3.ensures.value c.in_ok-excess.ensures.excesses);
+      excesses = subst Q c.deref-3.ensures.value (subst P c.deref-2.ensures.value c.in_ok-excess.ensures.excesses);
     }

@@ -1,10 +1,11 @@
-use Rattle.std.proofs.Common.{◌≡◌, ◌+ℤ◌, ◌^◌, pos, length, ◌/◌, List, ℤ, to_z, of_z, arith, set, sym, ap, subst, ◌∙◌}
+use Rattle.std.proofs.Common.{◌≡◌, ◌+ℤ◌, ◌^◌, pos, length, ◌/◌, List, ℤ, to_z, of_z, arith, set, false, refl, sym, ap, subst, ◌∙◌}
 use Rattle.std.proofs.lemmas.Int.{ints}
 use mir.Syntax.{w128}
 use Rattle.std.specs.Vec.{with_items}
 use Rattle.std.proofs.lemmas.List.{with_items_is}
 use Rattle.residual.specs.Excesses.{AreExcesses, forward, flows_after, excesses_after}
 use Rattle.bud_flow.specs.Sums.{number_at}
+use Rattle.node_potentials.specs.Rounds.{Round}
 use Rattle.residual.specs.Arcs.{arc_at}
 use Rattle.residual.specs.Bounds.{IsWithin, AllWithin}
 use Rattle.residual.specs.Networks.{Network, IsKey, IsLawful}
@@ -22,7 +23,7 @@ forward_amount-amount-requires c =
 pub move_excess-requires-clause-excess : goal.move_excess-requires-clause-excess
 move_excess-requires-clause-excess c =
     let P : List ℤ → Type 0 = AllWithin (pos (2 ^ 113)) in
-    subst P (sym c.deref_mut-3.ensures.value) (excesses-within (network_of c.self.inside) c.self.inside.excess.items c.self.invariant.lawful c.self.invariant.excesses)
+    subst P (sym c.deref_mut-2.ensures.value) (excesses-within (network_of c.self.inside) c.self.inside.excess.items c.self.invariant.lawful c.self.invariant.excesses)
 
 pub returns-clause-pushed : goal.returns-clause-pushed
 returns-clause-pushed c =
@@ -30,14 +31,13 @@ returns-clause-pushed c =
     let same : to_z w128 (of_z w128 c.args.amount) ≡ c.args.amount = omega (arith, ints, c.ranges.amount.sfits) in
     let is_over : over ≡ forward c.args.arc c.args.amount =
     (omega (arith, ints, c.forward_amount-amount.ensures.within.low, c.forward_amount-amount.ensures.within.high)) ∙ c.forward_amount-amount.ensures.value ∙ ap (forward c.args.arc) same in
-    let flows_size : length c.add_at.new.numbers ≡ c.self.inside.flows.len = c.add_at.auto.numbers ∙ c.deref_mut-2.ensures.len in
-    let kept_size : length c.keep.new.kept ≡ c.self.inside.kept.len = c.keep.auto.kept ∙ c.deref_mut.ensures.len in
+    let flows_size : length c.add_at.new.numbers ≡ c.self.inside.flows.len = c.add_at.auto.numbers ∙ c.deref_mut.ensures.len in
     let flows : List ℤ = (with_items c.self.inside.flows c.add_at.new.numbers).items in
-    let kept : List ℤ = (with_items c.self.inside.kept c.keep.new.kept).items in
     let is_flows : flows ≡ set c.self.inside.flows.items (c.args.arc / 2) (number_at c.self.inside.flows.items (c.args.arc / 2) +ℤ over)
-    = with_items_is c.self.inside.flows c.add_at.new.numbers flows_size ∙ rw (← c.deref_mut-2.ensures.value) c.add_at.ensures in
-    let is_kept : kept ≡ c.self.inside.potentials.items = with_items_is c.self.inside.kept c.keep.new.kept kept_size ∙ c.keep.ensures ∙ c.deref.ensures.value in
-    pushed_is (network_of c.self.inside) c.args.self.now c.args.arc c.args.amount over flows kept c.self.view_is is_flows is_over is_kept
+    = with_items_is c.self.inside.flows c.add_at.new.numbers flows_size ∙ rw (← c.deref_mut.ensures.value) c.add_at.ensures in
+    let before : Network = network_of c.self.inside in
+    let with_round : Round → Network = λ r. record before { flows = flows; kept = r.kept; potentials = r.present; is_open = false } in
+    ap with_round c.keep.ensures ∙ pushed_is before c.args.self.now c.args.arc c.args.amount over flows before.potentials c.self.view_is is_flows is_over refl
 
 pub returns-clause-lawful : goal.returns-clause-lawful
 returns-clause-lawful c =
@@ -55,8 +55,8 @@ invariant_of-self c =
     let is_over : over ≡ forward c.args.arc c.args.amount =
     (omega (arith, ints, c.forward_amount-amount.ensures.within.low, c.forward_amount-amount.ensures.within.high)) ∙ c.forward_amount-amount.ensures.value ∙ ap (forward c.args.arc) same in
     let moved : c.move_excess.new.excess ≡ excesses_after (arc_at c.self.inside.arcs.items (c.args.arc / 2)) (forward c.args.arc c.args.amount) c.self.inside.excess.items
-    = rw (c.deref-2.ensures.value, c.deref_mut-3.ensures.value, is_over) at c.move_excess.ensures in
-    let size : length c.move_excess.new.excess ≡ c.self.inside.excess.len = c.move_excess.auto.excess ∙ c.deref_mut-3.ensures.len in
+    = rw (c.deref.ensures.value, c.deref_mut-2.ensures.value, is_over) at c.move_excess.ensures in
+    let size : length c.move_excess.new.excess ≡ c.self.inside.excess.len = c.move_excess.auto.excess ∙ c.deref_mut-2.ensures.len in
     let written : (with_items c.self.inside.excess c.move_excess.new.excess).items ≡ c.move_excess.new.excess = with_items_is c.self.inside.excess c.move_excess.new.excess size in
     let K : Network → Type 0 = λ n. IsKey n c.args.arc in
     let told : AreExcesses net.arcs (flows_after net.flows c.args.arc c.args.amount) (excesses_after (arc_at net.arcs (c.args.arc / 2)) (forward c.args.arc c.args.amount) c.self.inside.excess.items)
@@ -65,7 +65,7 @@ invariant_of-self c =
     let Q : List ℤ → Type 0 = λ es. AreExcesses net.arcs (flows_after net.flows c.args.arc c.args.amount) es in
     record {
       lawful = returns-clause-lawful c;
-      excess_size = ap length written ∙ c.move_excess.auto.excess ∙ ap length c.deref_mut-3.ensures.value ∙ c.self.invariant.excess_size;
+      excess_size = ap length written ∙ c.move_excess.auto.excess ∙ ap length c.deref_mut-2.ensures.value ∙ c.self.invariant.excess_size;
       listed = c.self.invariant.listed;
       ways = c.self.invariant.ways;
       excesses = subst P (sym same_flows) (subst Q (sym (written ∙ moved)) told);
