@@ -8,5 +8,6 @@ mod refusals;
 mod shares;
 
 pub use named::line_number;
+pub use places::is_inside;
 pub use refusals::line_numbers;
 pub use shares::{Share, last_share};
