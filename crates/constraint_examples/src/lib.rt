@@ -1,0 +1,5 @@
+//! Worked timing constraints, with what `least` prints under them: tests alone.
+#![tactic(auto)]
+
+#[cfg(test)]
+mod tests;
