@@ -1,0 +1,5 @@
+//! Worked designs, with what the jobs print of them.
+#![tactic(auto)]
+
+#[cfg(test)]
+mod tests;
