@@ -5,7 +5,7 @@ ghost use Rattle.budget_report.specs.Causes.{Concerns};
 ghost use Rattle.budget_steps.specs.Steps.{Follows, step};
 ghost use Rattle.budget_steps.specs.Inputs.{Grammar, IsStopped, seen, file, input};
 
-use crate::outcomes::{Stop, refused};
+use crate::outcomes::{Stop, refused, refused_by};
 use bud_base::Text;
 use bud_shelf::{Shelf, ShelfFault};
 use budget_report::{Cause, Scene};
@@ -85,7 +85,7 @@ pub fn stopped(alloc: Global, name: &str, fault: ShelfFault) -> Stop
         ShelfFault::Missing | ShelfFault::Failed => Cause::Shelf(name),
         ShelfFault::NoMemory => return Stop::NoMemory,
     };
-    refused(alloc, &cause, Scene::Bare)
+    refused_by(alloc, cause, Scene::Bare)
 }
 
 /// A file's name as a text.

@@ -14,8 +14,7 @@ use std::alloc::{AllocError, Global};
 pub fn copied(alloc: Global, bytes: &[u8]) -> Result<Text, AllocError>
     ensures { IfOk result (λ text. text ≡ bytes.now) }
 {
-    let copy = Vec::from_slice(alloc, bytes)?;
-    Ok(Text::from_vec(copy))
+    Text::from_slice(alloc, bytes)
 }
 
 /// A row's name of a pin, with the row's instance in front.

@@ -12,7 +12,7 @@ use crate::keys::{name_key, pin_keys, place_keys};
 use crate::kinds::Kind;
 use crate::names::{is_instance, is_pin};
 use crate::texts::Form;
-use crate::writing::{append, name_backwards, place_backwards};
+use crate::writing::{name_backwards, place_backwards};
 use bud_base::{PinId, Text};
 use bud_design::{Pin, Pins, Place, Places, Wire, Wires};
 use name_tables::Chains;
@@ -230,7 +230,7 @@ impl Flat {
         let pin = &self.pins.as_slice()[pin.0 as usize];
         let mut name = name_backwards(into.allocator(), self.places.as_slice(), pin)?;
         name.reverse();
-        append(into, name.as_slice())
+        into.extend_from_slice(name.as_slice())
     }
 
     /// Adds the place's printed name, which is empty for the top; for want of memory the text stays.
@@ -241,7 +241,7 @@ impl Flat {
     {
         let mut name = place_backwards(into.allocator(), self.places.as_slice(), place)?;
         name.reverse();
-        append(into, name.as_slice())
+        into.extend_from_slice(name.as_slice())
     }
 
     /// The first pin of the wire that ends at this one.

@@ -6,23 +6,9 @@ ghost use Rattle.flat_design.specs.Fronts.{front, brackets};
 ghost use Rattle.flat_design.specs.declared.texts.Form.TheVariants.{Printed};
 
 use crate::names::{above, own_name};
-use bud_base::Text;
 use bud_design::{Pin, Place};
 use itoa::Buffer;
 use std::alloc::{AllocError, Global};
-use std::mem;
-
-/// Adds a piece to the text; for want of memory the text stays.
-pub fn append(into: &mut Text, piece: &[u8]) -> Result<(), AllocError>
-    ensures ok { OnOk result (into.new ≡ into.old ++ piece.now) }
-    ensures err { OnErr result (into.new ≡ into.old) }
-{
-    let alloc = into.allocator();
-    let mut text = mem::replace(into, Text::new(alloc)).into_vec();
-    let added = text.extend_from_slice(piece);
-    *into = Text::from_vec(text);
-    added
-}
 
 /// Adds the bytes of the piece, the last one first.
 fn put_backwards(text: &mut Vec<u8>, piece: &[u8]) -> Result<(), AllocError>

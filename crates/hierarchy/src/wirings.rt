@@ -22,14 +22,14 @@ fn with_bit(alloc: Global, name: Text, bit: Option<u32>) -> Result<Text, ElabFau
     let Some(number) = bit else {
         return Ok(name);
     };
-    let mut bytes = name.into_vec();
+    let mut text = name;
     let Ok(digits) = format!(in alloc; "[{number}]") else {
         return Err(ElabFault::NoMemory);
     };
-    if bytes.extend_from_slice(digits.as_bytes()).is_err() {
+    if text.extend_from_slice(digits.as_bytes()).is_err() {
         return Err(ElabFault::NoMemory);
     }
-    Ok(Text::from_vec(bytes))
+    Ok(text)
 }
 
 /// The printed name of the net bit of a number, below a path.

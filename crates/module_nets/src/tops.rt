@@ -57,8 +57,8 @@ fn named_top(alloc: Global, library: &Library<'_>, name: &[u8]) -> Result<usize,
     if let Some(number) = plain_number(library, name) {
         return Ok(number);
     }
-    match Vec::from_slice(alloc, name) {
-        Ok(copy) => Err(ElabFault::NoTop(Some(Text::from_vec(copy)))),
+    match Text::from_slice(alloc, name) {
+        Ok(copy) => Err(ElabFault::NoTop(Some(copy))),
         Err(_) => Err(ElabFault::NoMemory),
     }
 }

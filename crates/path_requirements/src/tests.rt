@@ -3,7 +3,7 @@ ghost use Rattle.std.specs.Prelude.{◌≡◌, true, nat_lt, All, AllPairs};
 ghost use Rattle.bud_design.specs.Clocks.{IsSoundClock};
 
 use crate::{relation, requirement};
-use bud_base::{Listed, PinId};
+use bud_base::{Listed, PinId, Text};
 use bud_design::{Capture, Class, Clock, Constraints, Exception, ExceptionKind, Marks, Met};
 use bud_syntax::Edge;
 use std::alloc::{AllocError, Global};
@@ -12,7 +12,7 @@ use std::process::Abort;
 /// A clock that rises at 0.
 fn clock(alloc: Global, period: i64, fall: i64) -> Clock {
     Clock {
-        name: Listed::new(alloc),
+        name: Text::new(alloc),
         period,
         rise: 0,
         fall,

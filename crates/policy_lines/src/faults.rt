@@ -2,15 +2,14 @@ ghost use Rattle.std.specs.Prelude.{◌≡◌, Some, IfOk};
 ghost use Rattle.layer_theory.specs.declared.refusals.LayerFault.TheVariants.{UnknownArc, UnknownInstance, NestedBlocks, UnknownClock};
 ghost use Rattle.policy_lines.specs.Refusals.{IsFaultOf};
 
-use bud_base::{Listed, Text};
+use bud_base::Text;
 use layer_theory::LayerFault;
 use std::alloc::{AllocError, Global};
 
 fn copied(alloc: Global, text: &Text) -> Result<Text, AllocError>
     ensures { IfOk result (λ copy. copy ≡ text.now) }
 {
-    let bytes = Vec::from_slice(alloc, text.as_slice())?;
-    Ok(Listed::from_vec(bytes))
+    Text::from_slice(alloc, text.as_slice())
 }
 
 pub fn unknown_instance(alloc: Global, name: &Text) -> LayerFault

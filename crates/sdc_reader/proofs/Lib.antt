@@ -7,3 +7,4 @@ pub mod ListedLemmas
 pub mod FileLemmas
 pub mod CommandLemmas
 mod RangeLemmas
+pub mod OptionWords

@@ -21,8 +21,7 @@ use std::alloc::{AllocError, Global};
 pub fn copied(alloc: Global, bytes: &[u8]) -> Result<Text, AllocError>
     ensures { IfOk result (λ text. text ≡ bytes.now) }
 {
-    let copy = Vec::from_slice(alloc, bytes)?;
-    Ok(Text::from_vec(copy))
+    Text::from_slice(alloc, bytes)
 }
 
 /// The row of an entry.

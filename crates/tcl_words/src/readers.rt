@@ -43,7 +43,7 @@ fn meanings(alloc: Global, bytes: &[u8]) -> Result<Text, AllocError>
 fn copy(alloc: Global, bytes: &[u8]) -> Result<Text, AllocError>
     ensures { IfOk result (λ text. text ≡ bytes.now) }
 {
-    Ok(Text::from_vec(Vec::from_slice(alloc, bytes)?))
+    Text::from_slice(alloc, bytes)
 }
 
 /// The bytes but the first and the last.

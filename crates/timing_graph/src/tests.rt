@@ -5,7 +5,7 @@ use crate::faults::GraphFault;
 use crate::gathering::{gather, in_order};
 use crate::graphs::Arc;
 use crate::ordering::order_of;
-use bud_base::{Listed, PinId};
+use bud_base::{Listed, PinId, Text};
 use bud_design::{LaunchEdge, Pair, Pin, Timing, Wire};
 use bud_syntax::{Dir, Edge};
 use std::alloc::{AllocError, Global};
@@ -73,7 +73,7 @@ fn pins(alloc: Global) -> Result<Vec<Pin>, AllocError> {
     for place in places {
         pins.push(Pin {
             place,
-            port: Listed::new(alloc),
+            port: Text::new(alloc),
             bit: None,
             dir: Dir::Input,
         })?;

@@ -73,8 +73,8 @@ pub fn next_word<'a>(left: Reading<'a>) -> Result<(Spelling<'a>, Reading<'a>), S
 pub fn copied(alloc: Global, bytes: &[u8]) -> Result<Text, Stop>
     ensures { GivesRead (λ text. text) result (Some bytes.now) }
 {
-    match Vec::from_slice(alloc, bytes) {
-        Ok(copy) => Ok(Text::from_vec(copy)),
+    match Text::from_slice(alloc, bytes) {
+        Ok(copy) => Ok(copy),
         Err(_) => Err(Stop::NoMemory),
     }
 }

@@ -13,4 +13,4 @@ pub returns-in-Ok : goal.returns-in-Ok
 returns-in-Ok c =
     top_is c.args.library.now.modules.now (Some c.args.name.now) c.args.library.now.apart
     ∙ (not_plain c.args.library.now.modules.now c.args.name.now c.plain_number.result c.in_default.is c.plain_number.ensures
-    ∙ ap (λ t. Err (NoTop (Some t))) (sym (c.from_vec.ensures ∙ c.in-Ok.ensures.items)))
+    ∙ ap (λ t. Err (NoTop (Some t))) (sym c.in-Ok.ensures))

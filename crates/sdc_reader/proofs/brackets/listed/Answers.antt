@@ -17,6 +17,12 @@ loop-word-smaller c =
     let less = c.in_ok-refusal.ensures.left.1 in
     omega arith
 
+pub loop-word-smaller-else-is_some : goal.loop-word-smaller-else-is_some
+loop-word-smaller-else-is_some c =
+    let whole = last_weighs c.loop-word.pending.items c.pop.new.self.items c.in-Some.word c.in-Some.ensures.items in
+    let less = c.in_ok-refusal.ensures.left.1 in
+    omega arith
+
 pub returns : goal.returns
 returns c = λ f opens.
     let none : c.loop-word.pending.items ≡ [] = search rules in

@@ -20,4 +20,4 @@ returns-clause-ok c =
     c.as_slice-3.ensures.value ∙ (c.reverse.ensures.items ∙ (ap reverse c.in_ok-name.ensures
     ∙ (reverse-reverse (front Printed c.as_slice-2.result.now p.place ++ bit_name p.port p.bit)
     ∙ (ap (λ ps. front Printed ps p.place ++ bit_name p.port p.bit) places ∙ pin-named c.args.self.now c.args.pin.0 p Printed flat c.requires read)))) in
-    subst (λ (s : List ℕ). OnOk c.append.result (c.append.new.into ≡ c.args.into.now ++ s)) name c.append.ensures.ok
+    subst (λ (s : List ℕ). OnOk c.extend_from_slice.result (c.extend_from_slice.new.self ≡ c.args.into.now ++ s)) name c.extend_from_slice.ensures.ok
