@@ -4,7 +4,7 @@ use Rattle.std.specs.Prelude.{int_lt}
 use Rattle.std.proofs.lemmas.Int.{ints}
 use Rattle.std.proofs.lemmas.Bool.{cases_lt}
 use Rattle.std.proofs.lemmas.List.{get_or-map, length-map}
-use Rattle.bud_base.specs.Paths.{item_at, start_at, end_at, least_of, Meets}
+use Rattle.bud_base.specs.Paths.{item_at, start_at, end_at, least_of}
 use Rattle.bud_base.specs.Soundness.{IsSound, IsSoundItem}
 use Rattle.bud_base.specs.declared.problems.Item.{Item}
 use Rattle.bud_base.specs.declared.problems.Start.{Start}
@@ -15,10 +15,11 @@ use Rattle.bud_flow.specs.Arrivals.{Suit}
 use Rattle.residual.specs.Bounds.{IsSmall, AllWithin}
 use Rattle.residual.specs.Arcs.{arc_at, full, limited_arc, open_arc, start_arc, end_arc, CanCarry, first_flow, HoldsReduced}
 use Rattle.residual.specs.Networks.{Network, HasShape, IsLawful, Fits, IsFresh}
-use Rattle.residual.specs.Sweeps.{AreReached}
+use Rattle.first_times.specs.FirstTimes.{AreFirstTimes}
 use Rattle.residual.proofs.Blocks.{get_or-first, get_or-second, get_or-third, get_or-fourth, by_block}
 use Rattle.residual.proofs.Pairs.{HoldsPair, gap, HoldsReduced-from_pair}
-use Rattle.residual.proofs.Sweeping.{sound_item, sound_start, sound_end, AreReached-within}
+use Rattle.residual.proofs.Theory.{IsWithin-from_suit}
+use Rattle.residual.proofs.Sweeping.{sound_item, sound_start, sound_end}
 use Rattle.residual.specs.declared.arcs.Arc.{Arc}
 
 -- the arcs of a problem, in their blocks
@@ -142,8 +143,7 @@ pub record AreFreshLists (p : Problem) (arcs : List Arc) (flows kept potentials 
   pub arcs_are : arcs ≡ arcs_from p
   pub flows_are : flows ≡ flows_from p potentials
   pub kept_are : kept ≡ potentials
-  pub reached : AreReached p potentials
-  pub suit : Suit p (least_of p) (number_at potentials)
+  pub first : AreFirstTimes p potentials
 
 arc_blocks : (p : Problem) (arcs : List Arc) (flows kept potentials : List ℤ) → AreFreshLists p arcs flows kept potentials
     → HasBlocks p limited_arc open_arc (start_arc p.nodes) (end_arc p.nodes) (arc_at arcs)
@@ -153,14 +153,14 @@ flow_blocks : (p : Problem) (arcs : List Arc) (flows kept potentials : List ℤ)
     → HasBlocks p (first_flow potentials) (λ _. pos 0) (λ _. pos 0) (λ _. pos 0) (number_at flows)
 flow_blocks p arcs flows kept potentials fresh = HasBlocks-from_lists p (first_flow potentials) (λ _. pos 0) (λ _. pos 0) (λ _. pos 0) flows (pos 0) fresh.flows_are
 
-pub AllWithin-reached : (p : Problem) (potentials : List ℤ) → IsSound p → Meets p → AreReached p potentials → AllWithin (pos (2 ^ 60)) potentials
-AllWithin-reached p potentials sound meets reached v below = elim (cases_lt v p.nodes) [
+pub AllWithin-first : (p : Problem) (potentials : List ℤ) → IsSound p → AreFirstTimes p potentials → AllWithin (pos (2 ^ 60)) potentials
+AllWithin-first p potentials sound first v below = elim (cases_lt v p.nodes) [
   | inl is_node ↦
-      let one = AreReached-within p potentials v sound meets reached is_node in
+      let one = IsWithin-from_suit p (number_at potentials) v sound first.suit is_node in
       record { low = omega (arith, ints, one.low); high = omega (arith, ints, one.high) }
   | inr past ↦
-      let is_root : v ≡ p.nodes = omega (arith, reached.size, below, past) in
-      let zero_there : number_at potentials v ≡ pos 0 = ap (number_at potentials) is_root ∙ reached.root in
+      let is_root : v ≡ p.nodes = omega (arith, first.size, below, past) in
+      let zero_there : number_at potentials v ≡ pos 0 = ap (number_at potentials) is_root ∙ first.root in
       record { low = omega (arith, ints, zero_there); high = omega (arith, ints, zero_there) }
 ]
 
@@ -180,12 +180,12 @@ HasShape-fresh p arcs sound blocks = record {
   end_limit = λ e within. rw (blocks.fourth e within) refl;
 }
 
-pub IsLawful-fresh : (p : Problem) (arcs : List Arc) (flows kept potentials : List ℤ) → IsSound p → Meets p → AreFreshLists p arcs flows kept potentials
+pub IsLawful-fresh : (p : Problem) (arcs : List Arc) (flows kept potentials : List ℤ) → IsSound p → AreFreshLists p arcs flows kept potentials
     → IsLawful (fresh_network p arcs flows kept potentials)
-IsLawful-fresh p arcs flows kept potentials sound meets fresh =
+IsLawful-fresh p arcs flows kept potentials sound fresh =
     let size : length arcs ≡ length p.items + length p.items + length p.starts + length p.ends = ap length fresh.arcs_are ∙ length-blocks p limited_arc open_arc (start_arc p.nodes) (end_arc p.nodes) in
     let good : (j : ℕ) → j < length arcs → IsGood p.nodes potentials (arc_at arcs j) (number_at flows j)
-    = λ j below. AreGood p arcs flows potentials sound fresh.suit fresh.reached.root (arc_blocks p arcs flows kept potentials fresh) (flow_blocks p arcs flows kept potentials fresh) j (omega (arith, below, size)) in
+    = λ j below. AreGood p arcs flows potentials sound fresh.first.suit fresh.first.root (arc_blocks p arcs flows kept potentials fresh) (flow_blocks p arcs flows kept potentials fresh) j (omega (arith, below, size)) in
     let reduced : (key : ℕ) → key < 2 * length arcs → HoldsReduced arcs flows potentials key
     = λ key below. HoldsReduced-from_pair arcs flows potentials key (good (key / 2) (omega (arith, below))).holds in
     let P : List ℤ → Type 0 = λ ps. (key : ℕ) → key < 2 * length arcs → HoldsReduced arcs flows ps key in
@@ -193,17 +193,17 @@ IsLawful-fresh p arcs flows kept potentials sound meets fresh =
       sizes = record {
         arcs = size;
         flows = ap length fresh.flows_are ∙ length-blocks p (first_flow potentials) (λ _. pos 0) (λ _. pos 0) (λ _. pos 0) ∙ sym size;
-        kept = ap length fresh.kept_are ∙ fresh.reached.size;
-        potentials = fresh.reached.size;
+        kept = ap length fresh.kept_are ∙ fresh.first.size;
+        potentials = fresh.first.size;
         joins = record { from = λ j below. (good j below).from; to = λ j below. (good j below).to };
         shape = HasShape-fresh p arcs sound (arc_blocks p arcs flows kept potentials fresh);
         count = omega (arith, size, sound.limits.items, sound.limits.starts, sound.limits.ends);
       };
       flows = λ j below. (good j below).carries;
       reduced = subst P (sym fresh.kept_are) reduced;
-      small = AllWithin-reached p potentials sound meets fresh.reached;
-      root = fresh.reached.root;
-      kept_root = ap (λ ps. number_at ps p.nodes) fresh.kept_are ∙ fresh.reached.root;
+      small = AllWithin-first p potentials sound fresh.first;
+      root = fresh.first.root;
+      kept_root = ap (λ ps. number_at ps p.nodes) fresh.kept_are ∙ fresh.first.root;
       closed = λ _. sym fresh.kept_are;
     }
 

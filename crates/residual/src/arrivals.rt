@@ -6,10 +6,12 @@ ghost use Rattle.bud_base.specs.Paths.{Meets, least_of};
 ghost use Rattle.bud_base.specs.Soundness.{IsSound};
 ghost use Rattle.bud_flow.specs.Arrivals.{Suit};
 ghost use Rattle.bud_flow.specs.Sums.{number_at};
+ghost use Rattle.first_times.specs.FirstTimes.{AreFirstTimes};
 ghost use Rattle.residual.specs.Bounds.{IsWithin};
 ghost use Rattle.residual.specs.Sweeps.{raised, AreReached, Rise, SuitBefore, SuitStarts};
 
 use bud_base::{Item, Links, NodeId, NodeOrder, Problem};
+use first_times::first_times;
 use std::alloc::{AllocError, Global};
 
 /// No start is earlier, in ps.
@@ -121,15 +123,14 @@ fn early_arrivals(alloc: Global, problem: &Problem) -> Result<Vec<i64>, AllocErr
     Ok(arrivals)
 }
 
-/// The least arrivals of a problem that meets, and 0 for the root.
-pub fn least_arrivals(alloc: Global, problem: &Problem) -> Result<Vec<i64>, AllocError>
+/// Arrivals with which the network of a problem that meets begins, and 0 for the root: the least, or those that share each node's slack.
+pub fn first_arrivals(alloc: Global, problem: &Problem) -> Result<Vec<i64>, AllocError>
     requires sound { IsSound problem.now }
     requires meets { Meets problem.now }
-    ensures reached { IfOk result (λ arrivals. AreReached problem.now arrivals.items) }
-    ensures suit { IfOk result (λ arrivals. Suit problem.now (least_of problem.now) (number_at arrivals.items)) }
+    ensures { IfOk result (λ arrivals. AreFirstTimes problem.now arrivals.items) }
 {
     let mut order = NodeOrder::new(alloc, problem.nodes, problem.items.len())?;
     let mut arrivals = early_arrivals(alloc, problem)?;
     settle(problem, &mut order, &mut arrivals);
-    Ok(arrivals)
+    first_times(alloc, problem, order.nodes(), arrivals)
 }

@@ -6,7 +6,7 @@ use crate::arcs::{
     Arc, Look, add_at, arcs_of, excesses_of, first_flows, forward_amount, look_at, move_excess,
     number_in,
 };
-use crate::arrivals::least_arrivals;
+use crate::arrivals::first_arrivals;
 use crate::comparisons::{are_ends, are_limited, are_open, are_starts};
 use crate::walks::{Way, no_ways, trim_flows};
 use arc_lists::ArcLists;
@@ -58,7 +58,7 @@ impl Net {
     ghost use Rattle.residual.specs.Networks.{IsKey, residual, IsLawful, AreReduced, excess_at, item_flow_at, start_flow_at, end_flow_at, Fits, IsFresh};
     ghost use Rattle.residual.specs.Trims.{AreLess, KeepsLimited, HasNoSurplus, total_limit};
 
-    /// The network of a problem, with the least arrivals as its potentials.
+    /// The network of a problem, with arrivals as its potentials that share the slack of each node.
     pub fn new(alloc: Global, problem: &Problem) -> Result<Net, AllocError>
         requires sound { IsSound problem.now }
         requires meets { Meets problem.now }
@@ -70,7 +70,7 @@ impl Net {
         let items = problem.items.as_slice();
         let starts = problem.starts.as_slice();
         let ends = problem.ends.as_slice();
-        let arrivals = least_arrivals(alloc, problem)?;
+        let arrivals = first_arrivals(alloc, problem)?;
         let arcs = arcs_of(alloc, NodeId(problem.nodes), items, starts, ends)?;
         let flows = first_flows(alloc, &arrivals, items, starts, ends)?;
         let excess = excesses_of(alloc, problem.nodes as usize + 1, &arcs, &flows)?;

@@ -77,7 +77,7 @@ fn a_new_network(rt: HostRuntime) -> Result<(), Fail> {
     let alloc = rt.alloc();
     let problem = row(alloc, 3, (3, 2), 150)?;
     let net = net_of(&rt, alloc, &problem)?;
-    for (node, potential, excess) in [(0, 0, -3), (1, 40, 1), (2, 70, 2), (3, 0, 0)] {
+    for (node, potential, excess) in [(0, 0, -3), (1, 80, 1), (2, 150, 2), (3, 0, 0)] {
         assert_eq!(rt; net.potential(NodeId(node)), potential, "at {node}");
         assert_eq!(rt; net.excess(NodeId(node)), excess, "at {node}");
     }
