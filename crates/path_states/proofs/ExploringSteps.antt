@@ -1,5 +1,5 @@
 -- An exploration, step by step.
-use Rattle.std.proofs.Common.{◌≡◌, ℕ, suc, ◌+◌, ◌<◌, ◌≤◌, ◌⊎◌, List, [], ◌∷◌, ◌++◌, length, Option, Some, None, refl, sym, ◌∙◌, ap, subst, inl, inr, arith, length-append}
+use Rattle.std.proofs.Common.{◌≡◌, ℕ, suc, ◌+◌, ◌<◌, ◌≤◌, ◌⊎◌, List, [], ◌∷◌, ◌++◌, length, Option, Some, None, sym, ◌∙◌, ap, subst, inl, inr, arith, length-append}
 use Rattle.std.specs.Prelude.{All, AllPairs, pos, slice_index_or}
 use Rattle.std.proofs.Math.ListN.{get_or-append}
 use Rattle.std.proofs.Math.Seq.{get_or-append_seam}
@@ -20,7 +20,7 @@ use Rattle.bud_design.specs.Exceptions.{class_of, class_at}
 use Rattle.bud_design.specs.TimingPaths.{launch_at}
 use Rattle.path_states.specs.Tables.{Table, Keeps, IsWithin, state_at, pin_at, class_in, launch_in, arc_in, from_in, to_in}
 use Rattle.path_states.specs.Entering.{Enters}
-use Rattle.path_states.specs.Exploring.{IsEdge, IsBegun, IsCaused, AreStates, HasEdge, HasBegin, AreTried, IsExploring, IsExplored, Follows, AddsEdge, CanFollow}
+use Rattle.path_states.specs.Exploring.{IsEdge, IsBegun, IsCaused, HasBegin, AreTried, IsExploring, IsExplored, Follows, AddsEdge, CanFollow}
 use Rattle.path_states.proofs.KeptFacts.{IsEdge-kept, IsBegun-kept, IsCaused-kept, HasEdge-kept, AreTried-kept, HasBegin-kept}
 
 causes-kept : (all : Constraints) (old new : Table) → Keeps old new → (i : ℕ) → i < length old.states → IsBegun all old i ⊎ IsCaused old i → IsBegun all new i ⊎ IsCaused new i

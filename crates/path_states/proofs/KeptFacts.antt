@@ -1,12 +1,12 @@
 -- What a table says stays where its states and edges keep their numbers.
-use Rattle.std.proofs.Common.{◌≡◌, ℕ, ◌<◌, ◌≤◌, ◌⊎◌, List, [], ◌∷◌, length, refl, sym, ◌∙◌, ap, subst, inl, inr, arith}
+use Rattle.std.proofs.Common.{◌≡◌, ℕ, ◌<◌, List, [], ◌∷◌, length, sym, ◌∙◌, ap, arith}
 use Rattle.bud_base.specs.Paths.{item_at}
 use Rattle.bud_base.specs.declared.problems.Item.{Item}
 use Rattle.bud_design.specs.declared.clocks.Constraints.{Constraints}
 use Rattle.bud_design.specs.declared.layers.Class.{Class}
 use Rattle.bud_design.specs.Exceptions.{class_at, class_of}
 use Rattle.bud_design.specs.TimingPaths.{launch_at}
-use Rattle.path_states.specs.Tables.{Table, Keeps, pin_at, class_in, launch_in, arc_in, from_in, to_in}
+use Rattle.path_states.specs.Tables.{Table, Keeps, pin_at, class_in, launch_in, from_in, to_in}
 use Rattle.path_states.specs.Exploring.{IsEdge, IsBegun, IsCaused, HasEdge, HasBegin, AreTried}
 
 same-goes : (all : Constraints) (k k' j j' : Class) (v v' : ℕ) → k' ≡ k → j' ≡ j → v' ≡ v → k ≡ class_at all j v → k' ≡ class_at all j' v'

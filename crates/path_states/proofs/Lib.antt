@@ -1,3 +1,5 @@
 pub mod EnteredLists
 pub mod KeptFacts
 pub mod ExploringSteps
+pub mod GroupMarks
+pub mod ClassStays

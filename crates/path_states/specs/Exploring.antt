@@ -5,7 +5,6 @@ use Rattle.bud_base.specs.declared.ids.ArcId.{ArcId}
 use Rattle.bud_base.specs.declared.ids.NodeId.{NodeId}
 use Rattle.bud_base.specs.declared.problems.Item.{Item}
 use Rattle.bud_design.specs.declared.clocks.Constraints.{Constraints}
-use Rattle.bud_design.specs.declared.layers.Class.{Class}
 use Rattle.bud_design.specs.Exceptions.{class_of, class_at}
 use Rattle.bud_design.specs.TimingPaths.{launch_at}
 use Rattle.path_states.specs.Tables.{Table, Keeps, IsWithin, pin_at, class_in, launch_in, arc_in, from_in, to_in}

@@ -1,3 +1,4 @@
 pub mod Tables
 pub mod Entering
 pub mod Exploring
+pub mod Groups

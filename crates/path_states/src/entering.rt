@@ -1,4 +1,5 @@
 ghost use Rattle.std.specs.Prelude.{◌≡◌, ◌<◌, length, suc, true, false, AllPairs, IfOk, OnOk};
+ghost use Rattle.bud_design.specs.Layers.{class_number};
 ghost use Rattle.path_states.specs.Entering.{IsEntered, Enters, LongerIf};
 ghost use Rattle.path_states.specs.Tables.{table_of, IsWithin};
 
@@ -53,6 +54,24 @@ pub fn enter(
     let Ok(kind) = u32::try_from(enter_class(&mut table.kinds, class)?) else {
         return Err(AllocError);
     };
+    let entered = enter_state(&mut table.states, State { pin, kind })?;
+    if entered.added {
+        table.launches.push(launch)?;
+    }
+    u32::try_from(entered.place).map_err(|_| AllocError)
+}
+
+/// Enters a pin in a class of this number that this launch reaches.
+pub fn enter_kind(
+    table: &mut StateTable,
+    pin: PinId,
+    kind: u32,
+    launch: u32,
+) -> Result<u32, AllocError>
+    requires lists { IsWithin (table_of table.old) }
+    requires kind { kind < length table.old.kinds.items }
+    ensures { IfOk result (λ i. Enters (table_of table.old) (table_of table.new) i pin.0 (class_number table.old.kinds.items kind) launch) }
+{
     let entered = enter_state(&mut table.states, State { pin, kind })?;
     if entered.added {
         table.launches.push(launch)?;

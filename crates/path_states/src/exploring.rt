@@ -1,9 +1,14 @@
 ghost use Rattle.std.specs.Prelude.{◌≡◌, ◌<◌, suc, length, OnOk, IfOk};
 ghost use Rattle.bud_base.specs.Leaving.{AreLinks};
-ghost use Rattle.path_states.specs.Tables.{table_of};
+ghost use Rattle.bud_base.specs.Paths.{item_at};
+ghost use Rattle.bud_design.specs.Exceptions.{class_at};
+ghost use Rattle.path_states.specs.Tables.{table_of, class_in, IsWithin};
+ghost use Rattle.path_states.specs.Entering.{Enters};
+ghost use Rattle.path_states.specs.Groups.{AreOutside};
 ghost use Rattle.path_states.specs.Exploring.{IsExploring, IsExplored, Follows, AddsEdge, CanFollow, PinsBelow};
 
-use crate::entering::enter;
+use crate::entering::{enter, enter_kind};
+use crate::groups::grouped_pins;
 use crate::tables::StateTable;
 use bud_base::{ArcId, Item, ItemId, Links, NodeId, PinId};
 use bud_design::Constraints;
@@ -11,23 +16,48 @@ use class_steps::{first_class, next_class};
 use indexmap::IndexSet;
 use std::alloc::{AllocError, Global};
 
+/// Enters a pin in the class behind a state; where the pin lies in no group, that is the state's.
+fn enter_behind(
+    alloc: Global,
+    all: &Constraints,
+    grouped: &[bool],
+    table: &mut StateTable,
+    from: u32,
+    pin: PinId,
+    launch: u32,
+) -> Result<u32, AllocError>
+    requires lists { IsWithin (table_of table.old) }
+    requires from { from < length table.old.states.keys }
+    requires pin { pin.0 < length grouped.now }
+    requires grouped { AreOutside all.now.exceptions grouped.now }
+    ensures { IfOk result (λ i. Enters (table_of table.old) (table_of table.new) i pin.0 (class_at all.now (class_in (table_of table.old) from) pin.0) launch) }
+{
+    let state = table.states.as_slice()[from as usize];
+    if !grouped[pin.0 as usize] {
+        return enter_kind(table, pin, state.kind, launch);
+    }
+    let class = next_class(alloc, all, &table.kinds[state.kind as usize], pin)?;
+    enter(table, pin, class, launch)
+}
+
 /// Goes along an arc from a state.
 fn follow(
     alloc: Global,
     arcs: &[Item],
     all: &Constraints,
+    grouped: &[bool],
     table: &mut StateTable,
     from: u32,
     arc: ItemId,
     launch: u32,
 ) -> Result<(), AllocError>
-    requires { CanFollow arcs.now (table_of table.old) from arc.0 launch }
+    requires state { CanFollow arcs.now (table_of table.old) from arc.0 launch }
+    requires pin { (item_at arcs.now arc.0).to.0 < length grouped.now }
+    requires grouped { AreOutside all.now.exceptions grouped.now }
     ensures { OnOk result (Follows arcs.now all.now (table_of table.old) (table_of table.new) from arc.0 launch) }
 {
     let pin = PinId(arcs[arc.0 as usize].to.0);
-    let state = table.states.as_slice()[from as usize];
-    let class = next_class(alloc, all, &table.kinds[state.kind as usize], pin)?;
-    let to = enter(table, pin, class, launch)?;
+    let to = enter_behind(alloc, all, grouped, table, from, pin, launch)?;
     add_edge(table, NodeId(from), NodeId(to), ArcId(arc.0))?;
     Ok(())
 }
@@ -70,10 +100,13 @@ fn take(
     arcs: &[Item],
     links: &Links,
     all: &Constraints,
+    grouped: &[bool],
     table: &mut StateTable,
     done: u32,
     launch: u32,
 ) -> Result<(), AllocError>
+    requires pin_marks { length grouped.now ≡ length links.now.first }
+    requires grouped { AreOutside all.now.exceptions grouped.now }
     requires links { AreLinks arcs.now links.now }
     requires pins { PinsBelow (length links.now.first) arcs.now all.now }
     requires next { done < length table.old.states.keys }
@@ -83,7 +116,7 @@ fn take(
     let pin = table.states.as_slice()[done as usize].pin;
     let mut next = links.first(NodeId(pin.0));
     while let Some(arc) = next {
-        follow(alloc, arcs, all, table, done, arc, launch)?;
+        follow(alloc, arcs, all, grouped, table, done, arc, launch)?;
         next = links.next(arc);
     }
     Ok(())
@@ -95,10 +128,13 @@ fn close(
     arcs: &[Item],
     links: &Links,
     all: &Constraints,
+    grouped: &[bool],
     table: &mut StateTable,
     mut done: u32,
     launch: u32,
 ) -> Result<u32, AllocError>
+    requires pin_marks { length grouped.now ≡ length links.now.first }
+    requires grouped { AreOutside all.now.exceptions grouped.now }
     requires links { AreLinks arcs.now links.now }
     requires pins { PinsBelow (length links.now.first) arcs.now all.now }
     requires exploring { IsExploring arcs.now all.now (table_of table.old) done launch (suc launch) }
@@ -106,7 +142,7 @@ fn close(
     ensures explored { OnOk result (IsExploring arcs.now all.now (table_of table.new) (length table.new.states.keys) launch (suc launch)) }
 {
     while (done as usize) < table.states.len() {
-        take(alloc, arcs, links, all, table, done, launch)?;
+        take(alloc, arcs, links, all, grouped, table, done, launch)?;
         let Some(more) = done.checked_add(1) else {
             return Err(AllocError);
         };
@@ -128,6 +164,8 @@ pub fn explore(
 {
     let mut links = Links::new(alloc, pins, arcs.len())?;
     links.fill(arcs);
+    let grouped = grouped_pins(alloc, all.exceptions.as_slice(), pins)?;
+    let marks = grouped.as_slice();
     let mut table = StateTable {
         kinds: Vec::new(alloc),
         states: IndexSet::new(alloc),
@@ -141,7 +179,7 @@ pub fn explore(
             return Err(AllocError);
         };
         begin(alloc, arcs, all, &mut table, number)?;
-        done = close(alloc, arcs, &links, all, &mut table, done, number)?;
+        done = close(alloc, arcs, &links, all, marks, &mut table, done, number)?;
     }
     Ok(table)
 }

@@ -3,6 +3,7 @@
 
 mod entering;
 mod exploring;
+mod groups;
 mod tables;
 
 pub use exploring::explore;

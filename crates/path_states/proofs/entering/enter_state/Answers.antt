@@ -1,4 +1,3 @@
-use Rattle.std.proofs.Common.{◌≡◌, sym, ◌∙◌, arith}
 use Rattle.path_states.proofs.EnteredLists.{IsEntered-inserted, State-decides}
 use Rattle.path_states.proofs.entering.enter_state.Goals as goal
 

@@ -1,11 +1,10 @@
-use Rattle.std.proofs.Common.{◌<◌, sym, ap, ◌∙◌, subst, refl, arith}
+use Rattle.std.proofs.Common.{◌<◌, sym, ap, ◌∙◌, subst, arith}
 use Rattle.bud_base.proofs.Trials.{rest_of, rest_of-next}
-use Rattle.path_states.specs.Tables.{pin_at, table_of}
 use Rattle.path_states.proofs.ExploringSteps.{IsTaking-found, IsTaking-more, IsExploring-taken}
 use Rattle.path_states.proofs.exploring.take.Goals as goal
 
-pub follow-requires : goal.follow-requires
-follow-requires c =
+pub follow-requires-clause-state : goal.follow-requires-clause-state
+follow-requires-clause-state c =
     let first = IsTaking-found _ _ _ _ _ _ c.in-Some.arc c.in-Some.is c.loop-next.invariant in
     let exploring = c.loop-next.invariant.exploring in
     record {
@@ -16,6 +15,11 @@ follow-requires c =
       launch = exploring.waiting c.args.done (omega arith) c.loop-next.invariant.here;
       latest = exploring.latest;
     }
+
+pub follow-requires-clause-pin : goal.follow-requires-clause-pin
+follow-requires-clause-pin c =
+    let first = IsTaking-found _ _ _ _ _ _ c.in-Some.arc c.in-Some.is c.loop-next.invariant in
+    omega (arith, c.requires.pins.to c.in-Some.arc.0 first.within, c.requires.pin_marks)
 
 pub loop-next-smaller : goal.loop-next-smaller
 loop-next-smaller c =
