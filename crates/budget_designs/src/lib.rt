@@ -6,4 +6,7 @@ mod files;
 mod jobs;
 mod slacks;
 
+pub use designs::{constrained, elaborated, joined, timed, top_name};
+pub use files::{ConstraintText, DelayText, NetlistText};
 pub use jobs::least;
+pub use slacks::violated;

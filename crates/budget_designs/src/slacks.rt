@@ -81,7 +81,7 @@ fn met(alloc: Global, slack: i64) -> Result<Answer, AllocError>
 }
 
 /// The answer where the least slack is negative: the worst path that the check keeps.
-fn violated(
+pub fn violated(
     alloc: Global,
     flat: &Flat,
     all: &Constraints,

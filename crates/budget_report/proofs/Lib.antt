@@ -1,2 +1,3 @@
 pub mod JoinsWithin
 pub mod LayeredPaths
+pub mod NamedPlaces

@@ -13,7 +13,7 @@ use Rattle.budget_report.specs.declared.causes.Cause.TheVariants.{Words, Shelf, 
 use Rattle.budget_report.specs.Lines.{line, nodes_of}
 use Rattle.budget_report.specs.Readings.{memory_fields, text_status, verilog_status, sdf_status, sdc_status, text_fields, verilog_fields, sdf_fields, sdc_fields}
 use Rattle.bud_design.specs.Designs.{Design}
-use Rattle.budget_report.specs.Certificates.{IsNamed, cert_fields}
+use Rattle.budget_report.specs.Certificates.{IsOf, cert_fields}
 use Rattle.budget_report.specs.DesignFaults.{elab_status, bind_status, graph_status, resolve_status, layer_status, elab_fields, bind_fields, graph_fields, resolve_fields, layer_fields, graph_rest, HasPins}
 use Rattle.budget_report.specs.Subjects.{Subject, problem_of, design_of, HasDesign}
 
@@ -64,22 +64,22 @@ abbrev pub length_fields : List ℕ → ℕ → List (List ℕ)
 length_fields name count = codes "limit" ∷ name ∷ decimal count ∷ []
 
 -- the fields of the line that names the cause; a refusal of the sink has none
-abbrev pub fields_of : Problem → Cause → List (List ℕ)
-fields_of p Words = codes "words" ∷ []
-fields_of p (Shelf name) = shelf_fields name
-fields_of p Sink = []
-fields_of p (Length name count) = length_fields name count
-fields_of p (LineText name fault) = text_fields name fault
-fields_of p (Verilog name fault) = verilog_fields name fault
-fields_of p (Sdf name fault) = sdf_fields name fault
-fields_of p (Sdc name fault) = sdc_fields name fault
-fields_of p (Elab fault) = elab_fields fault
-fields_of p (Bind fault) = bind_fields fault
-fields_of p (Graph fault) = graph_fields fault
-fields_of p (Resolve fault) = resolve_fields fault
-fields_of p (Layer fault) = layer_fields fault
-fields_of p (Unsound fault) = problem_fields fault
-fields_of p (Cert fault) = cert_fields p fault
+abbrev pub fields_of : Subject → Cause → List (List ℕ)
+fields_of subject Words = codes "words" ∷ []
+fields_of subject (Shelf name) = shelf_fields name
+fields_of subject Sink = []
+fields_of subject (Length name count) = length_fields name count
+fields_of subject (LineText name fault) = text_fields name fault
+fields_of subject (Verilog name fault) = verilog_fields name fault
+fields_of subject (Sdf name fault) = sdf_fields name fault
+fields_of subject (Sdc name fault) = sdc_fields name fault
+fields_of subject (Elab fault) = elab_fields fault
+fields_of subject (Bind fault) = bind_fields fault
+fields_of subject (Graph fault) = graph_fields fault
+fields_of subject (Resolve fault) = resolve_fields fault
+fields_of subject (Layer fault) = layer_fields fault
+fields_of subject (Unsound fault) = problem_fields fault
+fields_of subject (Cert fault) = cert_fields subject fault
 
 -- a line for each item of a cycle, with its nodes
 abbrev pub ring_lines : List Item → List ItemId → List ℕ
@@ -98,7 +98,7 @@ rest_of subject other = []
 
 -- what is printed of a cause
 abbrev pub text_of : Subject → Cause → List ℕ
-text_of subject cause = line (fields_of (problem_of subject) cause) ++ rest_of subject cause
+text_of subject cause = line (fields_of subject cause) ++ rest_of subject cause
 
 -- the items of the cycle are the problem's
 abbrev pub HasItems : Problem → ProblemFault → Type 0
@@ -108,7 +108,7 @@ HasItems p other = Unit {0}
 -- what the cause names is the subject's
 abbrev pub Concerns : Subject → Cause → Type 0
 Concerns subject (Unsound fault) = HasItems (problem_of subject) fault
-Concerns subject (Cert fault) = IsNamed (problem_of subject) fault
+Concerns subject (Cert fault) = IsOf subject fault
 Concerns subject (Graph fault) = HasDesign subject × HasPins (design_of subject) fault
 Concerns subject other = Unit {0}
 

@@ -142,7 +142,7 @@ fn put_cause(
         Cause::Resolve(fault) => put_resolve_fault(out, fault),
         Cause::Layer(fault) => put_layer_fault(out, fault),
         Cause::Problem(fault) => put_problem_fault(out, problem, fault),
-        Cause::Cert(fault) => put_cert_fault(out, problem, *fault),
+        Cause::Cert(fault) => put_cert_fault(out, scene, problem, *fault),
     }
 }
 

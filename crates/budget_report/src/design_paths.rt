@@ -59,7 +59,7 @@ fn put_slack(out: &mut Vec<u8>, slack: i64) -> Result<(), AllocError>
 }
 
 /// The number of a node's class.
-fn class_of_node(layered: &Layered, node: NodeId) -> u32
+pub fn class_of_node(layered: &Layered, node: NodeId) -> u32
     requires { node.0 < length layered.now.nodes }
     ensures { result ≡ class_of_node layered.now node.0 }
 {
@@ -211,7 +211,7 @@ fn has_groups(exceptions: &[Exception], number: u32) -> bool
 }
 
 /// The name of a node's pin.
-fn node_name(
+pub fn node_name(
     alloc: Global,
     flat: &Flat,
     layered: &Layered,

@@ -60,9 +60,9 @@ fn certified(alloc: Global, problem: &Problem, line: Text) -> Result<Answer, Sto
     requires line { IsFirstLine problem.now line }
     ensures { Follows (measured problem.now) result }
 {
-    let mut text = line.into_vec();
+    let mut text = line;
     text.extend_from_slice(best_text(alloc, problem)?.as_slice())?;
-    Ok(Answer::done(alloc, Text::from_vec(text)))
+    Ok(Answer::done(alloc, text))
 }
 
 /// Whether the certificate holds.

@@ -9,9 +9,10 @@ use Rattle.line_text.specs.Answers.{FailsText, UnlessMemory, IsSyntax}
 use Rattle.line_text.specs.Lines.{titled, line, section, Each}
 use Rattle.line_text.specs.Lines.Each.{none, more}
 use Rattle.line_text.proofs.SectionLaws.{section_sound, section_complete, each_apart, all_apart, line_sound, line_complete, end_sound}
+use Rattle.cert_text.proofs.HeaderLaws.{header_sound, header_complete}
 use Rattle.cert_text.specs.Lines as lines
-use Rattle.cert_text.specs.Texts.{IsCertificate, Reads, IsBreached, IsMalformed, IsReadAnswer}
-use Rattle.cert_text.specs.Reading.{front, back, certificate}
+use Rattle.cert_text.specs.Texts.{IsHeader, IsCertificate, Reads, IsBreached, IsMalformed, IsReadAnswer}
+use Rattle.cert_text.specs.Reading.{header, front, back, certificate}
 use Rattle.cert_text.specs.declared.certs.Cert.{Cert}
 use Rattle.cert_text.specs.declared.reader.Front.{Front}
 use Rattle.cert_text.specs.declared.reader.Back.{Back}
@@ -20,15 +21,15 @@ use Rattle.bud_base.specs.declared.texts.TextFault.TheVariants.{Syntax, Value, N
 
 -- rows up to the items, and the rows behind them
 record IsFront (rows : List Row) (f : Front) (rest : List Row) (after : Option ℕ) : Type 0 where
-  version : Row
+  header : List Row
   classes : List Row
   nodes : List Row
   items : List Row
-  in_order : rows ≡ version ∷ (classes ++ (nodes ++ (items ++ rest)))
+  in_order : rows ≡ header ++ (classes ++ (nodes ++ (items ++ rest)))
   before_classes : Option ℕ
   before_nodes : Option ℕ
   before_items : Option ℕ
-  is_version : titled (codes "certificate") lines.version (version, None) ≡ Some (tt, before_classes)
+  is_header : IsHeader header f.policy before_classes
   are_classes : Each (titled (codes "class") lines.class) classes before_classes f.classes before_nodes
   are_nodes : Each (titled (codes "node") lines.node) nodes before_nodes f.nodes before_items
   are_items : Each (titled (codes "item") lines.item) items before_items f.items after
@@ -50,24 +51,24 @@ front_sound : (rows : List Row) (f : Front) (rest : List Row) (b : Option ℕ) �
 unfolding front
 front_sound rows f rest b read =
     let P : Front × Left Row → Type 0 = λ r. IsFront rows r.0 r.1.0 r.1.1 in
-    step (line (titled (codes "certificate") lines.version) (rows, None)) _ _ read (λ version is_version behind1.
-    step (section (codes "class") lines.class version.1.0 version.1.1) _ _ behind1 (λ classes are_classes behind2.
+    step (header (rows, None)) _ _ read (λ policy is_policy behind1.
+    step (section (codes "class") lines.class policy.1.0 policy.1.1) _ _ behind1 (λ classes are_classes behind2.
     step (section (codes "node") lines.node classes.1.0 classes.1.1) _ _ behind2 (λ nodes are_nodes behind3.
     step (section (codes "item") lines.item nodes.1.0 nodes.1.1) _ _ behind3 (λ items are_items whole.
-    let l1 = line_sound (titled (codes "certificate") lines.version) rows None version.0 version.1.0 version.1.1 is_version in
-    let s2 = section_sound (codes "class") lines.class version.1.0 version.1.1 classes.0 classes.1.0 classes.1.1 are_classes in
+    let h1 = header_sound rows policy.0 policy.1.0 policy.1.1 is_policy in
+    let s2 = section_sound (codes "class") lines.class policy.1.0 policy.1.1 classes.0 classes.1.0 classes.1.1 are_classes in
     let s3 = section_sound (codes "node") lines.node classes.1.0 classes.1.1 nodes.0 nodes.1.0 nodes.1.1 are_nodes in
     let s4 = section_sound (codes "item") lines.item nodes.1.0 nodes.1.1 items.0 items.1.0 items.1.1 are_items in
     subst P (same_Some _ _ whole) (record {
-      version = l1.row;
+      header = h1.front;
       classes = s2.rows;
       nodes = s3.rows;
       items = s4.rows;
-      in_order = l1.front ∙ ap (λ r. l1.row ∷ r) (s2.front ∙ ap (λ r. s2.rows ++ r) (s3.front ∙ ap (λ r. s3.rows ++ r) s4.front));
-      before_classes = version.1.1;
+      in_order = h1.in_order ∙ ap (λ r. h1.front ++ r) (s2.front ∙ ap (λ r. s2.rows ++ r) (s3.front ∙ ap (λ r. s3.rows ++ r) s4.front));
+      before_classes = policy.1.1;
       before_nodes = classes.1.1;
       before_items = nodes.1.1;
-      is_version = l1.read;
+      is_header = h1.is_header;
       are_classes = s2.each;
       are_nodes = s3.each;
       are_items = s4.each;
@@ -100,23 +101,23 @@ back_sound rows a k b read =
 
 -- the two parts make a certificate
 together : (rows rest : List Row) (f : Front) (k : Back) (a b : Option ℕ) → IsFront rows f rest a → IsBack rest a k b
-    → IsCertificate rows (record { classes = f.classes; nodes = f.nodes; items = f.items; starts = k.starts; ends = k.ends; weight = k.weight }) b
+    → IsCertificate rows (record { policy = f.policy; classes = f.classes; nodes = f.nodes; items = f.items; starts = k.starts; ends = k.ends; weight = k.weight }) b
 together rows rest f k a b first last = record {
-  version = first.version;
+  header = first.header;
   classes = first.classes;
   nodes = first.nodes;
   items = first.items;
   starts = last.starts;
   ends = last.ends;
   weight = last.weight;
-  in_order = first.in_order ∙ ap (λ r. first.version ∷ (first.classes ++ (first.nodes ++ (first.items ++ r)))) last.in_order;
+  in_order = first.in_order ∙ ap (λ r. first.header ++ (first.classes ++ (first.nodes ++ (first.items ++ r)))) last.in_order;
   before_classes = first.before_classes;
   before_nodes = first.before_nodes;
   before_items = first.before_items;
   before_starts = a;
   before_ends = last.before_ends;
   before_weight = last.before_weight;
-  is_version = first.is_version;
+  is_header = first.is_header;
   are_classes = first.are_classes;
   are_nodes = first.are_nodes;
   are_items = first.are_items;
@@ -150,7 +151,7 @@ certificate_complete rows cert b given =
     each_apart (codes "node") (codes "class") lines.node given.nodes (given.items ++ (given.starts ++ (given.ends ++ given.weight ∷ []))) given.before_nodes given.before_items cert.nodes given.are_nodes refl (items_apart (codes "class") refl refl refl refl) in
     rw (
       given.in_order,
-      line_complete (titled (codes "certificate") lines.version) given.version (given.classes ++ (given.nodes ++ (given.items ++ (given.starts ++ (given.ends ++ given.weight ∷ []))))) None given.before_classes tt given.is_version,
+      header_complete given.header cert.policy (given.classes ++ (given.nodes ++ (given.items ++ (given.starts ++ (given.ends ++ given.weight ∷ []))))) given.before_classes given.is_header,
       section_complete (codes "class") lines.class given.classes (given.nodes ++ (given.items ++ (given.starts ++ (given.ends ++ given.weight ∷ [])))) given.before_classes given.before_nodes cert.classes given.are_classes nodes_apart,
       section_complete (codes "node") lines.node given.nodes (given.items ++ (given.starts ++ (given.ends ++ given.weight ∷ []))) given.before_nodes given.before_items cert.nodes given.are_nodes (items_apart (codes "node") refl refl refl refl),
       section_complete (codes "item") lines.item given.items (given.starts ++ (given.ends ++ given.weight ∷ [])) given.before_items given.before_starts cert.items given.are_items (starts_apart (codes "item") refl refl refl),

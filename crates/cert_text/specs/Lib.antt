@@ -1,4 +1,5 @@
 pub mod Certs
+pub mod Exceptions
 pub mod Lines
 pub mod Texts
 pub mod Reading

@@ -4,11 +4,12 @@ use Rattle.std.specs.Str.{bytes_eq}
 use Rattle.text_scan.specs.Left.{Left, ◌>>=◌, next, end_of}
 use Rattle.line_text.specs.Parts.{Part}
 use Rattle.line_text.specs.Numbers.{whole, count, word}
-use Rattle.line_text.specs.Names.{name, counts}
+use Rattle.line_text.specs.Names.{name}
 use Rattle.line_text.specs.Lines.{Production}
 use Rattle.bud_base.specs.declared.ids.ClassId.{ClassId}
 use Rattle.bud_syntax.specs.declared.edges.Edge.{Edge}
 use Rattle.bud_syntax.specs.declared.edges.Edge.TheVariants.{Rise, Fall}
+use Rattle.cert_text.specs.Exceptions.{exceptions}
 use Rattle.cert_text.specs.declared.certs.CertClass.{CertClass}
 use Rattle.cert_text.specs.declared.certs.CertNode.{CertNode}
 use Rattle.cert_text.specs.declared.certs.CertItem.{CertItem}
@@ -35,20 +36,32 @@ edge line = do
 abbrev pub number : Left Part → Option (ℤ × Left Part)
 number line = whole (pos 0 -ℤ pos 17592186044416) (pos 17592186044416) line
 
--- certificate 1
-unfoldable pub version : Production (Unit {0})
+-- `1` or `2`
+abbrev pub version_of : List ℕ → Option ℕ
+version_of word = if bytes_eq word (codes "1") then Some 1 else (if bytes_eq word (codes "2") then Some 2 else None)
+
+-- certificate 1, or certificate 2
+unfoldable pub version : Production ℕ
 version line = do
-  line ← word (codes "1") line
+  (field, line) ← next line
+  version ← version_of field.bytes
+  breach ← end_of line
+  Some (version, breach)
+
+-- policy 2
+unfoldable pub policy : Production (Unit {0})
+policy line = do
+  line ← word (codes "2") line
   breach ← end_of line
   Some (tt, breach)
 
--- class K CLOCK EDGE N ..
+-- class K CLOCK EDGE N .., or N:S
 unfoldable pub class : Production CertClass
 class line = do
   (number, line) ← class_number line
   (clock, line) ← name line
   (edge, line) ← edge line
-  (exceptions, breach) ← counts 0 4294967295 line.0 line.1
+  (exceptions, breach) ← exceptions line.0 line.1
   Some (record { number = number; clock = clock; edge = edge; exceptions = exceptions }, breach)
 
 -- node NAME K ARRIVAL

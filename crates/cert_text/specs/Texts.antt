@@ -7,26 +7,32 @@ use Rattle.cert_text.specs.declared.certs.Cert.{Cert}
 use Rattle.bud_base.specs.declared.texts.TextFault.{TextFault}
 use Rattle.bud_base.specs.declared.texts.TextFault.TheVariants.{Syntax, Value, NoMemory}
 
--- The rows are a certificate text in the loose form, in which numbers may be of any size: the line `certificate 1`, then
+-- the first rows: `certificate 1`, or `certificate 2` and then `policy 2`; the version, and the least breach
+pub data IsHeader : List Row → ℕ → Option ℕ → Type 0 where
+  first : (version : Row) (breach : Option ℕ) → titled (codes "certificate") lines.version (version, None) ≡ Some (1, breach) → IsHeader (version ∷ []) 1 breach
+  second : (version policy : Row) (middle breach : Option ℕ) → titled (codes "certificate") lines.version (version, None) ≡ Some (2, middle)
+      → titled (codes "policy") lines.policy (policy, middle) ≡ Some (tt, breach) → IsHeader (version ∷ policy ∷ []) 2 breach
+
+-- The rows are a certificate text in the loose form, in which numbers may be of any size: the version, then
 -- classes, nodes, items, starts and ends, and last the line `weight W`. Where all numbers are in their ranges, `breach`
 -- is None and the value is the certificate; else it is the least offset of a number that isn't, and in the value the
 -- least of the range stands for such a number.
 pub record IsCertificate (rows : List Row) (cert : Cert) (breach : Option ℕ) : Type 0 where
-  pub version : Row
+  pub header : List Row
   pub classes : List Row
   pub nodes : List Row
   pub items : List Row
   pub starts : List Row
   pub ends : List Row
   pub weight : Row
-  pub in_order : rows ≡ version ∷ (classes ++ (nodes ++ (items ++ (starts ++ (ends ++ weight ∷ [])))))
+  pub in_order : rows ≡ header ++ (classes ++ (nodes ++ (items ++ (starts ++ (ends ++ weight ∷ [])))))
   pub before_classes : Option ℕ
   pub before_nodes : Option ℕ
   pub before_items : Option ℕ
   pub before_starts : Option ℕ
   pub before_ends : Option ℕ
   pub before_weight : Option ℕ
-  pub is_version : titled (codes "certificate") lines.version (version, None) ≡ Some (tt, before_classes)
+  pub is_header : IsHeader header cert.policy before_classes
   pub are_classes : Each (titled (codes "class") lines.class) classes before_classes cert.classes before_nodes
   pub are_nodes : Each (titled (codes "node") lines.node) nodes before_nodes cert.nodes before_items
   pub are_items : Each (titled (codes "item") lines.item) items before_items cert.items before_starts

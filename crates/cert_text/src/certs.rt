@@ -1,6 +1,13 @@
 use bud_base::{ClassId, Listed, Text};
 use bud_syntax::Edge;
 
+/// An exception that a class meets by its from-part, by its number, and where it has groups how many of them are met.
+#[derive(Clone, Copy, Debug, PartialEq, Eq)]
+pub struct CertException {
+    pub number: u32,
+    pub steps: Option<u32>,
+}
+
 /// The line of a class.
 #[derive(Debug, Drop)]
 pub struct CertClass {
@@ -8,8 +15,7 @@ pub struct CertClass {
     /// The name of the class's clock.
     pub clock: Text,
     pub edge: Edge,
-    /// The numbers of the exceptions that the class meets.
-    pub exceptions: Numbers,
+    pub exceptions: CertExceptions,
 }
 
 /// The line of a node.
@@ -40,7 +46,7 @@ pub struct CertFlow {
     pub flow: i64,
 }
 
-pub type Numbers = Listed<u32>;
+pub type CertExceptions = Listed<CertException>;
 
 pub type CertClasses = Listed<CertClass>;
 
@@ -53,6 +59,8 @@ pub type CertFlows = Listed<CertFlow>;
 /// The lines of a certificate, in the order in which they are written.
 #[derive(Debug, Drop)]
 pub struct Cert {
+    /// The version of the policy, 1 or 2.
+    pub policy: u32,
     pub classes: CertClasses,
     pub nodes: CertNodes,
     pub items: CertItems,

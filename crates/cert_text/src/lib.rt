@@ -2,13 +2,14 @@
 #![tactic(auto)]
 
 mod certs;
+mod exceptions;
 mod lines;
 mod reader;
 mod writer;
 
 pub use certs::{
-    Cert, CertClass, CertClasses, CertFlow, CertFlows, CertItem, CertItems, CertNode, CertNodes,
-    Numbers,
+    Cert, CertClass, CertClasses, CertException, CertExceptions, CertFlow, CertFlows, CertItem,
+    CertItems, CertNode, CertNodes,
 };
 pub use reader::{one_value, read_cert};
 pub use writer::write_cert;

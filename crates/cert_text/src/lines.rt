@@ -8,11 +8,10 @@ ghost use Rattle.line_text.specs.Spans.{stop};
 ghost use Rattle.cert_text.specs.Lines as lines;
 
 use crate::certs::{CertClass, CertFlow, CertItem, CertNode};
+use crate::exceptions::exceptions;
 use bud_base::{ClassId, TextFault};
 use bud_syntax::Edge;
-use line_text::{
-    Line, OwnedLine, Reading, count, counts, end, name, next_field, whole, wide_whole, word,
-};
+use line_text::{Line, OwnedLine, Reading, count, end, name, next_field, whole, wide_whole, word};
 use std::alloc::Global;
 
 /// Budgets, arrivals and flows are within this either way.
@@ -93,11 +92,25 @@ fn line_end(line: Reading<'_>) -> Result<Option<usize>, TextFault>
     }
 }
 
-/// `certificate 1`
+/// The version that a word names.
+#[inline]
+fn version_of(field: &[u8]) -> Option<u32>
+    ensures { result ≡ lines.version_of field.now }
+{
+    if field == b"1".as_slice() {
+        Some(1)
+    } else if field == b"2".as_slice() {
+        Some(2)
+    } else {
+        None
+    }
+}
+
+/// `certificate 1` or `certificate 2`
 pub struct Version;
 
 impl Line for Version {
-    type Value = ();
+    type Value = u32;
 
     ghost title = { codes "certificate" };
 
@@ -109,8 +122,32 @@ impl Line for Version {
 
     #[inline]
     #[tactic(auto, unfolding(crate::specs::Lines::version))]
+    fn read(line: Reading<'_>) -> Option<(u32, Option<usize>)> {
+        let (field, rest) = next_field(line.rest)?;
+        let version = version_of(field.bytes)?;
+        let breach = line.breach;
+        Some((version, end(Reading { rest, breach })?))
+    }
+}
+
+/// `policy 2`
+pub struct PolicyLine;
+
+impl Line for PolicyLine {
+    type Value = ();
+
+    ghost title = { codes "policy" };
+
+    ghost production = { lines.policy };
+
+    fn title() -> &'static [u8] {
+        b"policy"
+    }
+
+    #[inline]
+    #[tactic(auto, unfolding(crate::specs::Lines::policy))]
     fn read(line: Reading<'_>) -> Option<((), Option<usize>)> {
-        let line = word(line, b"1")?;
+        let line = word(line, b"2")?;
         Some(((), end(line)?))
     }
 }
@@ -256,7 +293,7 @@ impl OwnedLine for EndLine {
     }
 }
 
-/// `class K CLOCK EDGE N ..`
+/// `class K CLOCK EDGE N ..`, where an exception may also be `N:S`
 pub struct ClassLine;
 
 impl OwnedLine for ClassLine {
@@ -276,7 +313,7 @@ impl OwnedLine for ClassLine {
         let (number, line) = class_number(line)?;
         let (clock, line) = name(alloc, line)?;
         let (edge, line) = edge(line)?;
-        let (exceptions, breach) = counts(alloc, line, 0, u32::MAX)?;
+        let (exceptions, breach) = exceptions(alloc, line)?;
         let class = CertClass {
             number,
             clock,

@@ -9,10 +9,12 @@ ghost use Rattle.cert_text.specs.Certs.{plan_in};
 ghost use Rattle.cert_text.specs.declared.certs.Cert.{Cert};
 ghost use Rattle.cert_text.specs.Texts.{Reads, IsBreached, IsMalformed, IsReadAnswer, HasAtMost};
 ghost use Rattle.cert_text.specs.Sizes.{HasFrontAtMost, HasBackAtMost};
-ghost use Rattle.cert_text.specs.Reading.{front, back, certificate};
+ghost use Rattle.cert_text.specs.Reading.{header, front, back, certificate};
 
 use crate::certs::{Cert, CertClasses, CertFlows, CertItems, CertNodes};
-use crate::lines::{ClassLine, EndLine, ItemLine, NodeLine, StartLine, Version, WeightLine};
+use crate::lines::{
+    ClassLine, EndLine, ItemLine, NodeLine, PolicyLine, StartLine, Version, WeightLine,
+};
 use bud_base::TextFault;
 use line_text::{Reading, next_line, owned_section, text_end};
 use std::alloc::Global;
@@ -20,6 +22,7 @@ use std::alloc::Global;
 /// A certificate up to its items.
 #[derive(Drop)]
 struct Front {
+    policy: u32,
     classes: CertClasses,
     nodes: CertNodes,
     items: CertItems,
@@ -33,6 +36,21 @@ struct Back {
     weight: i128,
 }
 
+/// Reads the version, which from 2 on is that of the policy too.
+#[tactic(auto, unfolding(crate::specs::Reading::header, crate::specs::Reading::policy_line))]
+fn read_header(text: Reading<'_>) -> Result<(u32, Reading<'_>), TextFault>
+    ensures read { GivesText (λ r. (r.0, rows_left r.1)) result (header (rows_left text.entry)) }
+    ensures within { IfOk result (λ r. GoesOn text.entry r.1) }
+    ensures fault { IsFaultWithin (stop text.entry.rest) result }
+{
+    let (version, text) = next_line::<Version>(text)?;
+    if version != 2 {
+        return Ok((version, text));
+    }
+    let ((), text) = next_line::<PolicyLine>(text)?;
+    Ok((version, text))
+}
+
 /// Reads up to the items.
 #[tactic(auto, unfolding(crate::specs::Reading::front))]
 fn read_front(alloc: Global, text: Reading<'_>) -> Result<(Front, Reading<'_>), TextFault>
@@ -41,11 +59,12 @@ fn read_front(alloc: Global, text: Reading<'_>) -> Result<(Front, Reading<'_>), 
     ensures fault { IsFaultWithin (stop text.entry.rest) result }
     ensures size { IfOk result (λ r. HasFrontAtMost (length text.entry.rest.bytes.now) r.0) }
 {
-    let ((), text) = next_line::<Version>(text)?;
+    let (policy, text) = read_header(text)?;
     let (classes, text) = owned_section::<ClassLine>(alloc, text)?;
     let (nodes, text) = owned_section::<NodeLine>(alloc, text)?;
     let (items, text) = owned_section::<ItemLine>(alloc, text)?;
     let front = Front {
+        policy,
         classes: CertClasses::from_vec(classes),
         nodes: CertNodes::from_vec(nodes),
         items: CertItems::from_vec(items),
@@ -85,6 +104,7 @@ fn read_loosely(alloc: Global, text: &[u8]) -> Result<(Cert, Option<usize>), Tex
     let (front, text) = read_front(alloc, Reading::new(text))?;
     let (back, breach) = read_back(alloc, text)?;
     let Front {
+        policy,
         classes,
         nodes,
         items,
@@ -95,6 +115,7 @@ fn read_loosely(alloc: Global, text: &[u8]) -> Result<(Cert, Option<usize>), Tex
         weight,
     } = back;
     let cert = Cert {
+        policy,
         classes,
         nodes,
         items,
@@ -119,9 +140,9 @@ fn read_in_ranges(alloc: Global, text: &[u8]) -> Result<Cert, TextFault>
     }
 }
 
-/// Reads a certificate text: the line `certificate 1`, then lines `class K CLOCK EDGE N ..`, `node NAME K ARRIVAL`,
-/// `item FROM TO K BUDGET FLOW`, `start NAME K FLOW` and `end NAME K FLOW`, in this order, and last the line `weight W`.
-/// Times are in ps.
+/// Reads a certificate text: the line `certificate 1`, or `certificate 2` and then `policy 2`, then lines
+/// `class K CLOCK EDGE N ..`, where an exception may also be `N:S`, `node NAME K ARRIVAL`, `item FROM TO K BUDGET FLOW`,
+/// `start NAME K FLOW` and `end NAME K FLOW`, in this order, and last the line `weight W`. Times are in ps.
 ///
 /// Syntax comes where the text isn't of this form, Value where a number is out of its range, with the offset of the
 /// first such number. It takes one pass over the text, and memory for the certificate alone.

@@ -3,9 +3,9 @@ ghost use Rattle.std.specs.Fmt.{signed_decimal};
 ghost use Rattle.std.specs.List.{flat_map};
 ghost use Rattle.line_text.specs.Written.{spaced, written};
 ghost use Rattle.cert_text.specs.Texts.{Reads};
-ghost use Rattle.cert_text.specs.Writing.{edge_word, class_line, node_line, item_line, flow_fields, start_line, end_line, text_of, IsInTextRanges};
+ghost use Rattle.cert_text.specs.Writing.{header_text, exception_field, edge_word, class_line, node_line, item_line, flow_fields, start_line, end_line, text_of, IsInTextRanges};
 
-use crate::certs::{Cert, CertClass, CertFlow, CertItem, CertNode};
+use crate::certs::{Cert, CertClass, CertException, CertFlow, CertItem, CertNode};
 use bud_base::Text;
 use bud_syntax::Edge;
 use itoa::Buffer;
@@ -25,7 +25,7 @@ fn write_lines(alloc: Global, cert: &Cert) -> Result<Text, AllocError>
     ensures { IfOk result (λ text. text ≡ text_of cert.now) }
 {
     let mut out = Vec::new(alloc);
-    put_version(&mut out)?;
+    put_header(&mut out, cert.policy)?;
     put_classes(&mut out, cert.classes.as_slice())?;
     put_nodes(&mut out, cert.nodes.as_slice())?;
     put_items(&mut out, cert.items.as_slice())?;
@@ -35,10 +35,14 @@ fn write_lines(alloc: Global, cert: &Cert) -> Result<Text, AllocError>
     Ok(Text::from_vec(out))
 }
 
-fn put_version(out: &mut Vec<u8>) -> Result<(), AllocError>
-    ensures { OnOk result (out.new.items ≡ out.old.items ++ written (codes "certificate") (codes "1" ∷ [])) }
+fn put_header(out: &mut Vec<u8>, policy: u32) -> Result<(), AllocError>
+    ensures { OnOk result (out.new.items ≡ out.old.items ++ header_text policy) }
 {
-    out.extend_from_slice(b"certificate 1\n")
+    if policy == 2 {
+        out.extend_from_slice(b"certificate 2\npolicy 2\n")
+    } else {
+        out.extend_from_slice(b"certificate 1\n")
+    }
 }
 
 fn put_weight(out: &mut Vec<u8>, weight: i128) -> Result<(), AllocError>
@@ -60,11 +64,23 @@ fn edge_bytes(edge: Edge) -> &'static [u8]
     }
 }
 
-fn put_numbers(out: &mut Vec<u8>, numbers: &[u32]) -> Result<(), AllocError>
-    ensures { OnOk result (out.new.items ≡ out.old.items ++ flat_map spaced (map decimal numbers.now)) }
+fn put_exception(out: &mut Vec<u8>, exception: CertException) -> Result<(), AllocError>
+    ensures { OnOk result (out.new.items ≡ out.old.items ++ spaced (exception_field exception)) }
 {
-    for number in numbers {
-        put_count(out, *number)?;
+    put_count(out, exception.number)?;
+    let Some(steps) = exception.steps else {
+        return Ok(());
+    };
+    let mut buffer = Buffer::new();
+    out.push(b':')?;
+    out.extend_from_slice(buffer.format(steps).as_bytes())
+}
+
+fn put_exceptions(out: &mut Vec<u8>, exceptions: &[CertException]) -> Result<(), AllocError>
+    ensures { OnOk result (out.new.items ≡ out.old.items ++ flat_map spaced (map exception_field exceptions.now)) }
+{
+    for exception in exceptions {
+        put_exception(out, *exception)?;
     }
     Ok(())
 }
@@ -76,7 +92,7 @@ fn put_class(out: &mut Vec<u8>, class: &CertClass) -> Result<(), AllocError>
     put_count(out, class.number.0)?;
     put_field(out, class.clock.as_slice())?;
     put_field(out, edge_bytes(class.edge))?;
-    put_numbers(out, class.exceptions.as_slice())?;
+    put_exceptions(out, class.exceptions.as_slice())?;
     out.push(b'\n')?;
     Ok(())
 }

@@ -13,12 +13,12 @@ use Rattle.bud_plans.specs.declared.plans.Plan.{Plan}
 use Rattle.bud_plans.proofs.Duality.{AreBest-from_plan}
 use Rattle.cert_text.specs.Certs.{plan_in}
 use Rattle.plan_cert.specs.Failures.{AllBelow}
-use Rattle.plan_cert.specs.Raw.{HasCounts, HasFlows, IsKeptAt, IsNumbersAnswer, OnHolds}
+use Rattle.plan_cert.specs.Numbers.{HasCounts, HasFlows, IsKeptAt, IsNumbersAnswer, OnHolds}
 use Rattle.plan_cert.specs.Totals.{IsWeightAnswer}
 use Rattle.cert_text.specs.declared.certs.Cert.{Cert}
 use Rattle.plan_cert.specs.declared.answers.CertAnswer.{CertAnswer}
 use Rattle.plan_cert.specs.declared.answers.CertAnswer.TheVariants.{Holds, Fault}
-use Rattle.plan_cert.specs.declared.answers.CertFault.TheVariants.{Shape, Bounds, Arrival, Start as LateStart, End as LateEnd, NegativeFlow, Balance, Weight}
+use Rattle.plan_cert.specs.declared.answers.CertFault.TheVariants.{Version, Shape, Bounds, Arrival, Start as LateStart, End as LateEnd, NegativeFlow, Balance, Weight}
 
 -- the lists of the lines have the problem's lengths
 pub IsFlowOf-from_counts : (p : Problem) (cert : Cert) → HasCounts p cert → IsFlowOf p (flow_of (plan_in cert))
@@ -62,6 +62,7 @@ IsNumbersAnswer-from_weights p cert (Holds weight) counts bounds suits flows kep
 )
 IsNumbersAnswer-from_weights p cert (Fault (Weight weight other)) counts bounds suits flows kept wrong =
     (AreWithinBounds-from_all p cert counts bounds, suits, IsBalanced-from_all p cert counts flows kept, wrong)
+IsNumbersAnswer-from_weights p cert (Fault (Version a b)) counts bounds suits flows kept wrong = absurd wrong
 IsNumbersAnswer-from_weights p cert (Fault (Shape place)) counts bounds suits flows kept wrong = absurd wrong
 IsNumbersAnswer-from_weights p cert (Fault (Bounds i)) counts bounds suits flows kept wrong = absurd wrong
 IsNumbersAnswer-from_weights p cert (Fault (Arrival i)) counts bounds suits flows kept wrong = absurd wrong

@@ -1,7 +1,9 @@
 pub mod Decimals
-pub mod LineNumbers
-pub mod NodeSumLemmas
 pub mod FailureLemmas
-pub mod TotalLemmas
+pub mod FaultLaws
 pub mod HoldingLemmas
+pub mod LineNumbers
+pub mod NamedTexts
+pub mod NodeSumLemmas
 pub mod RawTexts
+pub mod TotalLemmas

@@ -6,7 +6,7 @@ use Rattle.bud_base.specs.Paths.{item_at, start_at, end_at}
 use Rattle.bud_base.specs.declared.problems.Item.{Item}
 use Rattle.bud_base.specs.declared.problems.Start.{Start}
 use Rattle.bud_base.specs.declared.problems.End.{End}
-use Rattle.plan_cert.specs.Raw.{IsKeptAt}
+use Rattle.plan_cert.specs.Numbers.{IsKeptAt}
 use Rattle.plan_cert.specs.Failures.{IsFailure}
 use Rattle.plan_cert.proofs.FailureLemmas.{IsFailure-same}
 use Rattle.bud_base.specs.declared.problems.Problem.{Problem}

@@ -1,6 +1,9 @@
+pub mod Names
 pub mod Lines
-pub mod Failures
+pub mod Numbers
+pub mod Certificates
 pub mod Raw
 pub mod Timing
 pub mod NodeSums
 pub mod Totals
+pub mod Failures

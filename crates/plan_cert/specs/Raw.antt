@@ -1,154 +1,28 @@
--- Certificates of raw problems: when they hold, and what a check answers.
-use Rattle.std.specs.Prelude.{◌≡◌, ◌≢◌, ℕ, ℤ, ◌⊎◌, [], length, min}
+-- Certificates of raw problems: a node's name is its number, there is one class, 0, without a line, and the policy has version 1.
+use Rattle.std.specs.Prelude.{[]}
+use Rattle.std.specs.Fmt.{decimal}
 use Rattle.bud_base.specs.declared.problems.Problem.{Problem}
-use Rattle.bud_flow.specs.Sums.{number_at}
-use Rattle.bud_flow.specs.Flows.{IsNonNegative, IsBalanced, flow_into, flow_out_of, value_of}
-use Rattle.bud_flow.specs.Arrivals.{SuitsItem, SuitsStart, SuitsEnd}
-use Rattle.bud_plans.specs.Budgets.{IsWithinBounds, AreWithinBounds, SuitBudgets, budget_in, weight_of}
-use Rattle.bud_plans.specs.Plans.{IsHolding, flow_of}
-use Rattle.bud_plans.specs.declared.plans.Plan.{Plan}
-use Rattle.plan_cert.specs.Lines.{IsNodeLine, IsItemLine, IsStartLine, IsEndLine}
-use Rattle.plan_cert.specs.Failures.{AllBelow, IsFirstFailure}
-use Rattle.cert_text.specs.Certs.{plan_in}
+use Rattle.plan_cert.specs.Names.{Names}
+use Rattle.plan_cert.specs.Certificates.{HasLines, IsCertOf, IsCertFault, IsCertAnswer}
 use Rattle.cert_text.specs.declared.certs.Cert.{Cert}
 use Rattle.plan_cert.specs.declared.answers.CertAnswer.{CertAnswer}
-use Rattle.plan_cert.specs.declared.answers.CertAnswer.TheVariants.{Holds, Fault}
 use Rattle.plan_cert.specs.declared.answers.CertFault.{CertFault}
-use Rattle.plan_cert.specs.declared.answers.CertFault.TheVariants.{Shape, Bounds, Arrival, Start as LateStart, End as LateEnd, NegativeFlow, Balance, Weight}
-use Rattle.plan_cert.specs.declared.answers.CertPlace.{CertPlace}
-use Rattle.plan_cert.specs.declared.answers.CertPlace.TheVariants.{Class, Node, Item, Start, End, Count}
 
--- ---- lines
--- up to the shorter of the certificate's list and the problem's each line is the problem's
-abbrev pub HasNodeLines : Problem → Cert → Type 0
-HasNodeLines p cert = AllBelow (IsNodeLine cert.nodes) (min p.nodes (length cert.nodes))
+abbrev pub raw_names : Names
+raw_names = record { version = 1; classes = []; node_name = decimal; node_class = λ n. 0 }
 
-abbrev pub HasItemLines : Problem → Cert → Type 0
-HasItemLines p cert = AllBelow (IsItemLine p.items cert.items) (min (length p.items) (length cert.items))
-
-abbrev pub HasStartLines : Problem → Cert → Type 0
-HasStartLines p cert = AllBelow (IsStartLine p.starts cert.starts) (min (length p.starts) (length cert.starts))
-
-abbrev pub HasEndLines : Problem → Cert → Type 0
-HasEndLines p cert = AllBelow (IsEndLine p.ends cert.ends) (min (length p.ends) (length cert.ends))
-
--- there are no class lines, and as many others as the problem has nodes, items, starts and ends
-pub record HasCounts (p : Problem) (cert : Cert) : Type 0 where
-  pub classes : cert.classes ≡ []
-  pub nodes : length cert.nodes ≡ p.nodes
-  pub items : length cert.items ≡ length p.items
-  pub starts : length cert.starts ≡ length p.starts
-  pub ends : length cert.ends ≡ length p.ends
-
--- the lines are those of the problem, in its order and with its names
-pub record HasRawLines (p : Problem) (cert : Cert) : Type 0 where
-  pub nodes : HasNodeLines p cert
-  pub items : HasItemLines p cert
-  pub starts : HasStartLines p cert
-  pub ends : HasEndLines p cert
-  pub counts : HasCounts p cert
+-- the lines are those of the problem, in its order and with its node numbers as names
+abbrev pub HasRawLines : Problem → Cert → Type 0
+HasRawLines = HasLines raw_names
 
 -- the certificate holds for the problem
-pub record IsRawCert (p : Problem) (cert : Cert) : Type 0 where
-  pub lines : HasRawLines p cert
-  pub plan : IsHolding p (plan_in cert)
+abbrev pub IsRawCert : Problem → Cert → Type 0
+IsRawCert = IsCertOf raw_names
 
--- ---- faults, each where no earlier one stands
--- the first line that isn't the problem's
-abbrev pub IsWrongLine : Problem → Cert → CertPlace → Type 0
-IsWrongLine p cert (Class k) = ⊥
-IsWrongLine p cert (Node k) = IsFirstFailure (IsNodeLine cert.nodes) (min p.nodes (length cert.nodes)) k
-IsWrongLine p cert (Item i) = HasNodeLines p cert × IsFirstFailure (IsItemLine p.items cert.items) (min (length p.items) (length cert.items)) i
-IsWrongLine p cert (Start s) = HasNodeLines p cert × HasItemLines p cert × IsFirstFailure (IsStartLine p.starts cert.starts) (min (length p.starts) (length cert.starts)) s
-IsWrongLine p cert (End e) = HasNodeLines p cert × HasItemLines p cert × HasStartLines p cert × IsFirstFailure (IsEndLine p.ends cert.ends) (min (length p.ends) (length cert.ends)) e
-IsWrongLine p cert Count = HasNodeLines p cert × HasItemLines p cert × HasStartLines p cert × HasEndLines p cert × (HasCounts p cert → ⊥)
-
--- the item's budget is over before the arrival at its last node; the start's and the end's node have suiting arrivals
-abbrev pub HasItemArrival : Problem → Plan → ℕ → Type 0
-HasItemArrival p plan i = SuitsItem p (budget_in plan.budgets) (number_at plan.arrivals) i
-
-abbrev pub HasStartArrival : Problem → Plan → ℕ → Type 0
-HasStartArrival p plan s = SuitsStart p (number_at plan.arrivals) s
-
-abbrev pub HasEndArrival : Problem → Plan → ℕ → Type 0
-HasEndArrival p plan e = SuitsEnd p (number_at plan.arrivals) e
-
--- the number at this index is at least 0
-abbrev pub IsFlowAt : Plan → ℕ → Type 0
-IsFlowAt plan i = IsNonNegative (number_at plan.flow i)
-
-abbrev pub IsStartFlowAt : Plan → ℕ → Type 0
-IsStartFlowAt plan s = IsNonNegative (number_at plan.start_flow s)
-
-abbrev pub IsEndFlowAt : Plan → ℕ → Type 0
-IsEndFlowAt plan e = IsNonNegative (number_at plan.end_flow e)
-
--- the first flow below 0, of items, then starts, then ends
-abbrev pub IsNegativeFlow : Problem → Plan → CertPlace → Type 0
-IsNegativeFlow p plan (Class k) = ⊥
-IsNegativeFlow p plan (Node k) = ⊥
-IsNegativeFlow p plan (Item i) = IsFirstFailure (IsFlowAt plan) (length p.items) i
-IsNegativeFlow p plan (Start s) = AllBelow (IsFlowAt plan) (length p.items) × IsFirstFailure (IsStartFlowAt plan) (length p.starts) s
-IsNegativeFlow p plan (End e) = AllBelow (IsFlowAt plan) (length p.items) × AllBelow (IsStartFlowAt plan) (length p.starts) × IsFirstFailure (IsEndFlowAt plan) (length p.ends) e
-IsNegativeFlow p plan Count = ⊥
-
--- no flow is below 0
-pub record HasFlows (p : Problem) (plan : Plan) : Type 0 where
-  pub items : AllBelow (IsFlowAt plan) (length p.items)
-  pub starts : AllBelow (IsStartFlowAt plan) (length p.starts)
-  pub ends : AllBelow (IsEndFlowAt plan) (length p.ends)
-
--- as much comes into the node as goes out
-abbrev pub IsKeptAt : Problem → Plan → ℕ → Type 0
-IsKeptAt p plan node = flow_into p (flow_of plan) node ≡ flow_out_of p (flow_of plan) node
-
--- the budgets weigh the first number, and the second is the first that differs from it of the written weight and the flow's value
-pub record IsWrongWeight (p : Problem) (plan : Plan) (weight other : ℤ) : Type 0 where
-  pub weight_is : weight_of p plan.budgets ≡ weight
-  pub other_is : (plan.weight ≡ other) ⊎ ((plan.weight ≡ weight) × (value_of p (flow_of plan) ≡ other))
-  pub differs : weight ≢ other
-
--- a fault of the numbers
-abbrev pub IsWrongNumber : Problem → Plan → CertFault → Type 0
-IsWrongNumber p plan (Shape place) = ⊥
-IsWrongNumber p plan (Bounds i) = IsFirstFailure (IsWithinBounds p plan.budgets) (length p.items) i.0
-IsWrongNumber p plan (Arrival i) = AreWithinBounds p plan.budgets × IsFirstFailure (HasItemArrival p plan) (length p.items) i.0
-IsWrongNumber p plan (LateStart s) =
-    AreWithinBounds p plan.budgets × AllBelow (HasItemArrival p plan) (length p.items)
-    × IsFirstFailure (HasStartArrival p plan) (length p.starts) s
-IsWrongNumber p plan (LateEnd e) =
-    AreWithinBounds p plan.budgets × AllBelow (HasItemArrival p plan) (length p.items) × AllBelow (HasStartArrival p plan) (length p.starts)
-    × IsFirstFailure (HasEndArrival p plan) (length p.ends) e
-IsWrongNumber p plan (NegativeFlow place) =
-    AreWithinBounds p plan.budgets × SuitBudgets p plan.budgets plan.arrivals × IsNegativeFlow p plan place
-IsWrongNumber p plan (Balance node) =
-    AreWithinBounds p plan.budgets × SuitBudgets p plan.budgets plan.arrivals × HasFlows p plan
-    × IsFirstFailure (IsKeptAt p plan) p.nodes node.0
-IsWrongNumber p plan (Weight weight other) =
-    AreWithinBounds p plan.budgets × SuitBudgets p plan.budgets plan.arrivals × IsBalanced p (flow_of plan)
-    × IsWrongWeight p plan weight other
-
--- the plan holds and its weight, or its first fault
-abbrev pub IsNumbersAnswer : Problem → Plan → CertAnswer → Type 0
-IsNumbersAnswer p plan (Holds weight) = IsHolding p plan × (plan.weight ≡ weight)
-IsNumbersAnswer p plan (Fault fault) = IsWrongNumber p plan fault
-
--- the certificate's first fault, of its lines and then of its numbers
+-- the certificate's first fault
 abbrev pub IsRawFault : Problem → Cert → CertFault → Type 0
-IsRawFault p cert (Shape place) = IsWrongLine p cert place
-IsRawFault p cert other = HasRawLines p cert × IsWrongNumber p (plan_in cert) other
+IsRawFault p cert fault = IsCertFault raw_names p cert fault
 
 -- the certificate holds and its weight, or its first fault
 abbrev pub IsRawAnswer : Problem → Cert → CertAnswer → Type 0
-IsRawAnswer p cert (Holds weight) = IsRawCert p cert × (cert.weight ≡ weight)
-IsRawAnswer p cert (Fault fault) = IsRawFault p cert fault
-
--- the fact where the certificate holds
-abbrev pub OnHolds : CertAnswer → Type 0 → Type 0
-OnHolds (Holds weight) fact = fact
-OnHolds (Fault fault) fact = Unit {0}
-
--- the fact of the weight where the certificate holds
-abbrev pub IfHolds : CertAnswer → (ℤ → Type 0) → Type 0
-IfHolds (Holds weight) Fact = Fact weight
-IfHolds (Fault fault) Fact = Unit {0}
+IsRawAnswer p cert answer = IsCertAnswer raw_names p cert answer

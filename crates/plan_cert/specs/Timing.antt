@@ -3,7 +3,7 @@ use Rattle.std.specs.Prelude.{length}
 use Rattle.bud_base.specs.declared.problems.Problem.{Problem}
 use Rattle.bud_plans.specs.declared.plans.Plan.{Plan}
 use Rattle.plan_cert.specs.Failures.{AllBelow, IsFirstFailure}
-use Rattle.plan_cert.specs.Raw.{HasItemArrival, HasStartArrival, HasEndArrival}
+use Rattle.plan_cert.specs.Numbers.{HasItemArrival, HasStartArrival, HasEndArrival}
 use Rattle.plan_cert.specs.declared.answers.CertFault.{CertFault}
 use Rattle.plan_cert.specs.declared.answers.CertFault.TheVariants.{Arrival, Start as LateStart, End as LateEnd}
 

@@ -6,7 +6,7 @@ use Rattle.bud_flow.specs.Flows.{value_of}
 use Rattle.bud_plans.specs.Budgets.{weight_of}
 use Rattle.bud_plans.specs.Plans.{flow_of}
 use Rattle.bud_plans.specs.declared.plans.Plan.{Plan}
-use Rattle.plan_cert.specs.Raw.{IsWrongWeight}
+use Rattle.plan_cert.specs.Numbers.{IsWrongWeight}
 use Rattle.plan_cert.specs.declared.answers.CertAnswer.{CertAnswer}
 use Rattle.plan_cert.specs.declared.answers.CertAnswer.TheVariants.{Holds, Fault}
 use Rattle.plan_cert.specs.declared.answers.CertFault.{CertFault}

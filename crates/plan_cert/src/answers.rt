@@ -12,6 +12,8 @@ pub enum CertAnswer {
 /// Why a certificate doesn't hold. The faults come in this order, and within one kind the first in order is given.
 #[derive(Clone, Copy, Debug, PartialEq, Eq)]
 pub enum CertFault {
+    /// The policy has the first version, and the certificate the second.
+    Version(u32, u32),
     /// The line there isn't the problem's.
     Shape(CertPlace),
     /// The item's budget is below its least or above its greatest.

@@ -3,7 +3,7 @@ ghost use Rattle.bud_base.specs.Soundness.{IsSound};
 ghost use Rattle.bud_plans.specs.Plans.{HasPlanNumbers};
 ghost use Rattle.cert_text.specs.Certs.{plan_in};
 ghost use Rattle.plan_cert.specs.Failures.{IsFailure};
-ghost use Rattle.plan_cert.specs.Raw.{HasCounts, HasFlows, IsNegativeFlow, IsFlowAt, IsStartFlowAt, IsEndFlowAt};
+ghost use Rattle.plan_cert.specs.Numbers.{HasCounts, HasFlows, IsNegativeFlow, IsFlowAt, IsStartFlowAt, IsEndFlowAt};
 
 use crate::answers::CertPlace;
 use crate::numbers::{end_flow_at, item_flow_at, start_flow_at};

@@ -5,7 +5,7 @@ ghost use Rattle.bud_plans.specs.Plans.{IsPlanNumber, HasPlanNumbers};
 ghost use Rattle.cert_text.specs.Certs.{plan_in};
 ghost use Rattle.plan_cert.specs.Failures.{IsFailure};
 ghost use Rattle.plan_cert.specs.NodeSums.{IsNodeSum, AreSums, items_sum, inflow_sum, excess_sum};
-ghost use Rattle.plan_cert.specs.Raw.{HasCounts, IsKeptAt};
+ghost use Rattle.plan_cert.specs.Numbers.{HasCounts, IsKeptAt};
 
 use crate::numbers::{end_flow_at, item_flow_at, start_flow_at};
 use bud_base::Problem;

@@ -3,7 +3,7 @@ ghost use Rattle.bud_base.specs.Soundness.{IsSound};
 ghost use Rattle.bud_plans.specs.Plans.{HasPlanNumbers};
 ghost use Rattle.cert_text.specs.Certs.{plan_in};
 ghost use Rattle.plan_cert.specs.Failures.{IsFailure};
-ghost use Rattle.plan_cert.specs.Raw.{HasCounts, IsKeptAt};
+ghost use Rattle.plan_cert.specs.Numbers.{HasCounts, IsKeptAt};
 
 use crate::node_sums::first_unkept;
 use bud_base::Problem;

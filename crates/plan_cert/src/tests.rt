@@ -76,7 +76,11 @@ fn judges_certificates(rt: HostRuntime) -> Result<(), Fail> {
     let items = "item 0 1 0 100 2\nitem 1 2 0 50 2\n";
     let large = "item 0 1 0 101 2\nitem 1 2 0 50 2\n";
     let ends = "start 0 0 2\nend 2 0 2\n";
-    let cases: [(&str, &str, &str, &str, &str); 7] = [
+    let second = "certificate 2\npolicy 2\nnode 0 0 0\nnode 1 0 100\nnode 2 0 150\n";
+    let class = "certificate 1\nclass 0 C rise\nnode 0 0 0\nnode 1 0 100\nnode 2 0 150\n";
+    let cases: [(&str, &str, &str, &str, &str); 9] = [
+        (second, items, ends, "weight 400\n", "Fault(Version(1, 2))"),
+        (class, items, ends, "weight 400\n", "Fault(Shape(Count))"),
         (nodes, items, ends, "weight 400\n", "Holds(400)"),
         (
             nodes,

@@ -4,7 +4,7 @@ ghost use Rattle.bud_plans.specs.Budgets.{IsWithinBounds, SuitBudgets};
 ghost use Rattle.bud_plans.specs.Plans.{IsPlanNumber, HasPlanNumbers};
 ghost use Rattle.cert_text.specs.Certs.{plan_in};
 ghost use Rattle.plan_cert.specs.Failures.{IsFailure};
-ghost use Rattle.plan_cert.specs.Raw.{HasCounts, HasItemArrival, HasStartArrival, HasEndArrival};
+ghost use Rattle.plan_cert.specs.Numbers.{HasCounts, HasItemArrival, HasStartArrival, HasEndArrival};
 ghost use Rattle.plan_cert.specs.Timing.{IsLate};
 
 use crate::answers::CertFault;

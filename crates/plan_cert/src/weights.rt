@@ -6,7 +6,7 @@ ghost use Rattle.bud_flow.specs.Flows.{item_value, value_of};
 ghost use Rattle.bud_plans.specs.Budgets.{weight_of};
 ghost use Rattle.bud_plans.specs.Plans.{IsPlanNumber, HasPlanNumbers, flow_of};
 ghost use Rattle.cert_text.specs.Certs.{plan_in};
-ghost use Rattle.plan_cert.specs.Raw.{HasCounts};
+ghost use Rattle.plan_cert.specs.Numbers.{HasCounts};
 ghost use Rattle.plan_cert.specs.Totals.{IsFactor, IsProduct, IsTotal, IsWeightAnswer};
 
 use crate::answers::{CertAnswer, CertFault};

@@ -1,6 +1,6 @@
 use Rattle.cert_text.specs.Certs.{plan_in}
 use Rattle.plan_cert.specs.Failures.{AllBelow}
-use Rattle.plan_cert.specs.Raw.{HasItemArrival}
+use Rattle.plan_cert.specs.Numbers.{HasItemArrival}
 use Rattle.plan_cert.proofs.timing_checks.first_late_item.Given as goal
 
 abbrev pub invariant-loop-i : goal.invariant-loop-i

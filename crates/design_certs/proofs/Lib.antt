@@ -1,0 +1,2 @@
+pub mod LayeredClasses
+pub mod Naming
