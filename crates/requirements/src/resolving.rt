@@ -53,7 +53,7 @@ fn gathered(
     )?;
     let unclocked = unclocked(alloc, edges, reached.as_slice())?;
     Ok(Constraints {
-        clocks,
+        clocks: clocks.into_clocks(),
         launches,
         captures,
         exceptions,

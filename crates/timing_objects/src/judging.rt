@@ -1,16 +1,17 @@
-ghost use Rattle.std.specs.Prelude.{◌≡◌, ◌==◌, ◌&&◌, ◌<◌, length, flat_map, All, IfOk};
+ghost use Rattle.std.specs.Prelude.{◌≡◌, ◌==◌, ◌&&◌, ◌<◌, length, flat_map, ◌++◌, All, IfOk, OnOk};
 ghost use Rattle.std.specs.List.{list_any, list_all};
 ghost use Rattle.timing_objects.specs.Answers.{Gives, IsFault, each};
 ghost use Rattle.timing_objects.specs.Objects.{object_text, unknown, is_part, may_be, misfit, is_free, things_in, pins_in, clocks_in, marks_of};
 ghost use Rattle.timing_objects.specs.Within.{IsPinIn};
 ghost use Rattle.timing_objects.specs.declared.faults.ResolveFault.TheVariants.{ClockTwice};
 
+use crate::clock_tables::ClockTable;
 use crate::faults::ResolveFault;
 use crate::objects::meant;
 use crate::scenes::Scene;
 use crate::things::{Role, Thing, Things};
 use bud_base::{PinId, Text};
-use bud_design::{Clock, ClockList, Marks, PinList};
+use bud_design::{ClockList, Marks, PinList};
 use bud_syntax::Object;
 use std::alloc::{AllocError, Global};
 
@@ -33,7 +34,7 @@ fn object_text(object: &Object) -> &[u8]
 fn copied(alloc: Global, text: &[u8]) -> Result<Text, AllocError>
     ensures { IfOk result (λ copy. copy ≡ text.now) }
 {
-    Ok(Text::from_vec(Vec::from_slice(alloc, text)?))
+    Text::from_slice(alloc, text)
 }
 
 /// The refusal of an object that stands for nothing.
@@ -115,36 +116,13 @@ fn all_may_be(scene: &Scene<'_>, role: Role, things: &[Thing]) -> bool
     true
 }
 
-fn has_pin(pins: &[PinId], pin: PinId) -> bool
-    ensures { result ≡ list_any (λ p. p.0 == pin.0) pins.now }
-{
-    for other in pins {
-        if *other == pin {
-            return true;
-        }
-    }
-    false
-}
-
-/// Whether a clock has the pin as a source.
-fn has_source(clocks: &[Clock], pin: PinId) -> bool
-    ensures { result ≡ list_any (λ c. list_any (λ p. p.0 == pin.0) c.sources) clocks.now }
-{
-    for clock in clocks {
-        if has_pin(clock.sources.as_slice(), pin) {
-            return true;
-        }
-    }
-    false
-}
-
 /// Whether no clock stands in the way of naming the thing so.
-fn is_free(role: Role, clocks: &[Clock], thing: Thing) -> bool
+fn is_free(role: Role, clocks: &ClockTable, thing: Thing) -> bool
     ensures { result ≡ is_free role clocks.now thing }
 {
     match role {
         Role::Source => match thing {
-            Thing::Pin(pin) => !has_source(clocks, pin),
+            Thing::Pin(pin) => !clocks.has_source(pin),
             Thing::Cell(_) => true,
             Thing::Clock(_) => true,
         },
@@ -156,7 +134,7 @@ fn is_free(role: Role, clocks: &[Clock], thing: Thing) -> bool
     }
 }
 
-fn all_are_free(role: Role, clocks: &[Clock], things: &[Thing]) -> bool
+fn all_are_free(role: Role, clocks: &ClockTable, things: &[Thing]) -> bool
     ensures { result ≡ list_all (is_free role clocks.now) things.now }
 {
     for thing in things {
@@ -172,7 +150,7 @@ pub fn things_in(
     alloc: Global,
     scene: &Scene<'_>,
     role: Role,
-    clocks: &[Clock],
+    clocks: &ClockTable,
     object: &Object,
 ) -> Result<Things, ResolveFault>
     requires { length clocks.now < 2147483648 }
@@ -198,13 +176,15 @@ pub fn all_things(
     alloc: Global,
     scene: &Scene<'_>,
     role: Role,
-    clocks: &[Clock],
+    clocks: &ClockTable,
     objects: &[Object],
 ) -> Result<Things, ResolveFault>
     requires { length clocks.now < 2147483648 }
     ensures { Gives result (each (things_in scene.now role clocks.now) objects.now) }
 {
-    let mut things = Vec::new(alloc);
+    let Ok(mut things) = Vec::with_capacity(alloc, objects.len()) else {
+        return Err(ResolveFault::NoMemory);
+    };
     for object in objects {
         let found = things_in(alloc, scene, role, clocks, object)?;
         let Ok(()) = things.extend_from_slice(found.as_slice()) else {
@@ -214,26 +194,27 @@ pub fn all_things(
     Ok(Things::from_vec(things))
 }
 
-/// The pins that a thing names.
-fn pins_in(
+/// Adds the pins that a thing names.
+fn add_pins(
     alloc: Global,
     scene: &Scene<'_>,
     role: Role,
     thing: Thing,
-) -> Result<PinList, AllocError>
-    ensures { IfOk result (λ pins. pins ≡ pins_in scene.now role thing) }
+    pins: &mut Vec<PinId>,
+) -> Result<(), AllocError>
+    ensures { OnOk result (pins.new.items ≡ pins.old.items ++ pins_in scene.now role thing) }
 {
     match thing {
         Thing::Pin(pin) => {
-            let mut pins = PinList::new(alloc);
             pins.push(pin)?;
-            Ok(pins)
+            Ok(())
         }
         Thing::Cell(place) => {
             let own = scene.pins_of_cell(alloc, role, place)?;
-            Ok(own)
+            pins.extend_from_slice(own.as_slice())?;
+            Ok(())
         }
-        Thing::Clock(_) => Ok(PinList::new(alloc)),
+        Thing::Clock(_) => Ok(()),
     }
 }
 
@@ -246,10 +227,9 @@ pub fn pins_of(
 ) -> Result<PinList, AllocError>
     ensures { IfOk result (λ pins. pins ≡ flat_map (pins_in scene.now role) things.now) }
 {
-    let mut pins = Vec::new(alloc);
+    let mut pins = Vec::with_capacity(alloc, things.len())?;
     for thing in things {
-        let named = pins_in(alloc, scene, role, *thing)?;
-        pins.extend_from_slice(named.as_slice())?;
+        add_pins(alloc, scene, role, *thing, &mut pins)?;
     }
     Ok(PinList::from_vec(pins))
 }

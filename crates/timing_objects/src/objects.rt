@@ -1,30 +1,16 @@
 ghost use Rattle.std.specs.Prelude.{◌≡◌, ◌<◌, [], ◌∷◌, map, length, IfOk};
 ghost use Rattle.std.specs.List.{range_with_len};
 ghost use Rattle.std.specs.Option.{option_or};
-ghost use Rattle.bud_design.specs.Clocks.{clock_called};
 ghost use Rattle.timing_objects.specs.Objects.{a_pin, clock_named, port_named, cell_named, pin_named, bare_part, bare_named, meant};
 ghost use Rattle.timing_objects.specs.PortNames.{numbers};
 ghost use Rattle.timing_objects.specs.declared.things.Thing.TheVariants.{Clock as ClockThing};
 
+use crate::clock_tables::ClockTable;
 use crate::scenes::Scene;
 use crate::things::{Role, Thing, Things};
 use bud_base::PinId;
-use bud_design::Clock;
 use bud_syntax::Object;
 use std::alloc::{AllocError, Global};
-
-/// The number of the clock of this name.
-pub fn clock_called(clocks: &[Clock], name: &[u8]) -> Option<u32>
-    requires { length clocks.now < 2147483648 }
-    ensures { result ≡ clock_called clocks.now name.now }
-{
-    for (number, clock) in clocks.iter().enumerate() {
-        if clock.name.as_slice() == name {
-            return Some(number as u32);
-        }
-    }
-    None
-}
 
 fn single(alloc: Global, thing: Thing) -> Result<Things, AllocError>
     ensures { IfOk result (λ things. things ≡ thing ∷ []) }
@@ -55,11 +41,15 @@ fn each_clock(alloc: Global, count: u32) -> Result<Things, AllocError>
     Ok(Things::from_vec(things))
 }
 
-fn clock_named(alloc: Global, clocks: &[Clock], name: &[u8]) -> Result<Option<Things>, AllocError>
+fn clock_named(
+    alloc: Global,
+    clocks: &ClockTable,
+    name: &[u8],
+) -> Result<Option<Things>, AllocError>
     requires { length clocks.now < 2147483648 }
     ensures { IfOk result (λ things. things ≡ clock_named clocks.now name.now) }
 {
-    match clock_called(clocks, name) {
+    match clocks.called(name) {
         Some(clock) => Ok(Some(single(alloc, Thing::Clock(clock))?)),
         None => Ok(None),
     }
@@ -96,7 +86,7 @@ fn pin_named(alloc: Global, scene: &Scene<'_>, name: &[u8]) -> Result<Option<Thi
 fn bare_part(
     alloc: Global,
     scene: &Scene<'_>,
-    clocks: &[Clock],
+    clocks: &ClockTable,
     name: &[u8],
 ) -> Result<Option<Things>, AllocError>
     requires { length clocks.now < 2147483648 }
@@ -129,7 +119,7 @@ fn bare_named(
     alloc: Global,
     scene: &Scene<'_>,
     role: Role,
-    clocks: &[Clock],
+    clocks: &ClockTable,
     name: &[u8],
 ) -> Result<Option<Things>, AllocError>
     requires { length clocks.now < 2147483648 }
@@ -150,7 +140,7 @@ pub fn meant(
     alloc: Global,
     scene: &Scene<'_>,
     role: Role,
-    clocks: &[Clock],
+    clocks: &ClockTable,
     object: &Object,
 ) -> Result<Option<Things>, AllocError>
     requires { length clocks.now < 2147483648 }
@@ -164,6 +154,6 @@ pub fn meant(
         Object::Any(name) => bare_named(alloc, scene, role, clocks, name.as_slice()),
         Object::AllInputs => Ok(Some(each_pin(alloc, scene.inputs(alloc)?.as_slice())?)),
         Object::AllOutputs => Ok(Some(each_pin(alloc, scene.outputs(alloc)?.as_slice())?)),
-        Object::AllClocks => Ok(Some(each_clock(alloc, clocks.len() as u32)?)),
+        Object::AllClocks => Ok(Some(each_clock(alloc, clocks.as_slice().len() as u32)?)),
     }
 }

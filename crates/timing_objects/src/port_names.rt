@@ -1,4 +1,4 @@
-ghost use Rattle.std.specs.Prelude.{◌≡◌, ◌++◌, ◌<◌, length, map, filter, find, All, OnOk, IfOk};
+ghost use Rattle.std.specs.Prelude.{◌≡◌, ◌++◌, ◌<◌, ◌≤◌, length, map, filter, find, All, AllPairs, OnOk, IfOk};
 ghost use Rattle.std.specs.Option.{option_map};
 ghost use Rattle.std.specs.Str.{bytes_eq};
 ghost use Rattle.bud_design.specs.Designs.{pin_at, bits_of};
@@ -6,6 +6,7 @@ ghost use Rattle.bud_design.specs.Lists.{only};
 ghost use Rattle.bud_design.specs.Names.{plain, bit_name, meaning};
 ghost use Rattle.timing_objects.specs.PortNames.{design_of, numbers, AreBelow, named_as, HasPlain, bit_named, vector_named, has_port, comes_before, leads_among, ArePortNames};
 
+use crate::orders::span_of;
 use bud_base::{Listed, PinId, Text};
 use bud_design::{Pin, PinList};
 use itoa::Buffer;
@@ -14,24 +15,24 @@ use std::alloc::{AllocError, Global};
 /// A name that means port bits of the top: a bit's own, or a vector's.
 #[derive(Debug, Drop)]
 pub struct PortName {
-    printed: Text,
-    plain: Text,
-    pins: PinList,
+    pub printed: Text,
+    pub plain: Text,
+    pub pins: PinList,
 }
 
 pub type PortNames = Listed<PortName>;
 
-/// The port bits of a place.
+/// The port bits of a place, in time linear in them.
 pub fn bits_of(alloc: Global, pins: &[Pin], place: u32) -> Result<PinList, AllocError>
-    requires { length pins.now < 2147483648 }
+    requires few { length pins.now < 2147483648 }
+    requires together { AllPairs (λ u v. u.place ≤ v.place) pins.now }
     ensures bits { IfOk result (λ bits. numbers bits ≡ bits_of (design_of pins.now) place) }
     ensures below { IfOk result (AreBelow pins.now) }
 {
+    let span = span_of(pins, place);
     let mut bits = Vec::new(alloc);
-    for number in 0..pins.len() {
-        if pins[number].place == place {
-            bits.push(PinId(number as u32))?;
-        }
+    for number in span.start..span.end {
+        bits.push(PinId(number as u32))?;
     }
     Ok(PinList::from_vec(bits))
 }
@@ -153,7 +154,7 @@ fn named_vector(
 {
     let port = pins[bit.0 as usize].port.as_slice();
     let vector = bits_of_port(alloc, pins, bits, port)?;
-    let printed = Text::from_vec(Vec::from_slice(alloc, port)?);
+    let printed = Text::from_slice(alloc, port)?;
     named(alloc, printed, vector)
 }
 
@@ -194,53 +195,12 @@ fn add_vectors(
 
 /// The names of the top's ports: each bit by its own name, and each vector by its name, which means all its bits.
 pub fn port_names(alloc: Global, pins: &[Pin]) -> Result<PortNames, AllocError>
-    requires { length pins.now < 2147483648 }
+    requires few { length pins.now < 2147483648 }
+    requires together { AllPairs (λ u v. u.place ≤ v.place) pins.now }
     ensures { IfOk result (ArePortNames pins.now) }
 {
     let bits = bits_of(alloc, pins, 0)?;
     let mut names = bit_names(alloc, pins, bits.as_slice())?;
     add_vectors(alloc, pins, bits.as_slice(), &mut names)?;
     Ok(PortNames::from_vec(names))
-}
-
-/// The first with this printed name.
-fn with_printed<'a>(names: &'a [PortName], name: &[u8]) -> Option<&'a PortName>
-    ensures { option_map (λ n. n.now) result ≡ find (λ n. bytes_eq n.printed name.now) names.now }
-{
-    for candidate in names {
-        if candidate.printed.as_slice() == name {
-            return Some(candidate);
-        }
-    }
-    None
-}
-
-/// The only one with this plain name.
-fn with_plain<'a>(names: &'a [PortName], name: &[u8]) -> Option<&'a PortName>
-    ensures { option_map (λ n. n.now) result ≡ only (filter (λ n. bytes_eq n.plain name.now) names.now) }
-{
-    let mut found: Option<&PortName> = None;
-    for candidate in names {
-        if candidate.plain.as_slice() == name {
-            if found.is_some() {
-                return None;
-            }
-            found = Some(candidate);
-        }
-    }
-    found
-}
-
-/// The port bits that a name means: those with this printed name, else the only ones with this plain name.
-pub fn find_port<'a>(names: &'a [PortName], name: &[u8]) -> Option<&'a [PinId]>
-    requires { All HasPlain names.now }
-    ensures { option_map (λ bits. numbers bits.now) result ≡ meaning (map named_as names.now) name.now }
-{
-    if let Some(found) = with_printed(names, name) {
-        return Some(found.pins.as_slice());
-    }
-    match with_plain(names, name) {
-        Some(found) => Some(found.pins.as_slice()),
-        None => None,
-    }
 }

@@ -5,9 +5,11 @@ ghost use Rattle.bud_design.specs.Designs.{is_input, is_output, named_ports, nam
 ghost use Rattle.bud_design.specs.Names.{meaning};
 ghost use Rattle.bud_design.specs.TimingRules.{IsSoundTiming};
 ghost use Rattle.timing_objects.specs.Objects.{is_input_bit, is_output_bit, is_source_pin, is_checked, is_register_place, pin_may_be, is_meant_by_cell, pins_of_cell};
-ghost use Rattle.timing_objects.specs.PortNames.{numbers, is_at};
+ghost use Rattle.timing_objects.specs.PortNames.{numbers};
 
-use crate::port_names::{PortNames, bits_of, find_port, port_names};
+use crate::orders::{has_check, has_edge, span_of};
+use crate::port_names::bits_of;
+use crate::port_tables::{PortTable, find_port, port_table};
 use crate::things::Role;
 use bud_base::PinId;
 use bud_design::{PinList, Timing};
@@ -21,19 +23,19 @@ use std::marker::Model;
 pub struct Scene<'a> {
     flat: &'a Flat,
     timing: &'a Timing,
-    ports: PortNames,
+    ports: PortTable,
 }
 
 impl<'a> Model for Scene<'a> {
     ghost use Rattle.bud_design.specs.TimingRules.{IsSoundTiming};
     ghost use Rattle.timing_objects.specs.Objects.{Subject};
-    ghost use Rattle.timing_objects.specs.PortNames.{ArePortNames};
+    ghost use Rattle.timing_objects.specs.PortTables.{IsPortTable};
 
     ghost Value = { Subject };
 
     ghost view = { λ s. record { design = s.flat.now; root = 0; timing = s.timing.now } };
 
-    ghost invariant = { λ s. IsSoundTiming s.flat.now s.timing.now × ArePortNames s.flat.now.pins s.ports };
+    ghost invariant = { λ s. IsSoundTiming s.flat.now s.timing.now × IsPortTable s.flat.now.pins s.ports };
 }
 
 impl<'a> Scene<'a> {
@@ -42,7 +44,7 @@ impl<'a> Scene<'a> {
         requires { IsSoundTiming flat.now timing.now }
         ensures { IfOk result (λ scene. scene ≡ record { design = flat.now; root = 0; timing = timing.now }) }
     {
-        let ports = port_names(alloc, flat.pins())?;
+        let ports = port_table(alloc, flat.pins())?;
         Ok(Scene {
             flat,
             timing,
@@ -68,7 +70,7 @@ impl<'a> Scene<'a> {
     pub(crate) fn port(&self, name: &[u8]) -> Option<&[PinId]>
         ensures { option_map (λ bits. numbers bits.now) result ≡ meaning (named_ports self.now.design self.now.root) name.now }
     {
-        find_port(self.ports.as_slice(), name)
+        find_port(&self.ports, name)
     }
 
     /// The pin that a name means.
@@ -149,40 +151,24 @@ impl<'a> Scene<'a> {
     fn is_clocked(&self, pin: PinId) -> bool
         ensures { result ≡ is_clocked self.now.timing pin.0 }
     {
-        for edge in self.timing.edges.as_slice() {
-            if edge.pin == pin {
-                return true;
-            }
-        }
-        false
+        has_edge(self.timing.edges.as_slice(), pin)
     }
 
     /// Whether the pin is checked.
     fn is_checked(&self, pin: PinId) -> bool
         ensures { result ≡ is_checked self.now.timing pin.0 }
     {
-        for check in self.timing.checks.as_slice() {
-            if check.pin == pin {
-                return true;
-            }
-        }
-        false
-    }
-
-    /// Whether the pin is a clock pin of the instance.
-    fn is_clocked_at(&self, place: u32, pin: PinId) -> bool
-        requires { pin.0 < length self.now.design.pins }
-        ensures { result ≡ is_at self.now.design.pins place pin.0 && is_clocked self.now.timing pin.0 }
-    {
-        self.flat.pins()[pin.0 as usize].place == place && self.is_clocked(pin)
+        has_check(self.timing.checks.as_slice(), pin)
     }
 
     /// Whether the instance is a register.
     pub(crate) fn is_register(&self, place: u32) -> bool
         ensures { result ≡ is_register_place self.now place }
     {
-        for number in 0..self.flat.pin_count() {
-            if self.is_clocked_at(place, PinId(number)) {
+        let pins = self.flat.pins();
+        let span = span_of(pins, place);
+        for number in span.start..span.end {
+            if self.is_clocked(PinId(number as u32)) {
                 return true;
             }
         }

@@ -9,14 +9,14 @@ use bud_base::Text;
 use bud_design::{Clock, PinList};
 use bud_syntax::Object;
 use std::alloc::{AllocError, Global};
-use timing_objects::{ResolveFault, Role, Scene, all_things, clock_called, pins_of};
+use timing_objects::{ClockTable, ResolveFault, Role, Scene, all_things, pins_of};
 
 /// The pins that objects give a command that names them so, up to the first refusal.
 pub fn pins_named(
     alloc: Global,
     scene: &Scene<'_>,
     role: Role,
-    clocks: &[Clock],
+    clocks: &ClockTable,
     objects: &[Object],
 ) -> Result<PinList, ResolveFault>
     requires { length clocks.now < 2147483648 }
@@ -32,7 +32,7 @@ pub fn pins_named(
 fn copied(alloc: Global, text: &[u8]) -> Result<Text, AllocError>
     ensures { IfOk result (λ copy. copy ≡ text.now) }
 {
-    Ok(Text::from_vec(Vec::from_slice(alloc, text)?))
+    Text::from_slice(alloc, text)
 }
 
 fn unknown_clock(alloc: Global, name: &[u8]) -> ResolveFault
@@ -63,11 +63,11 @@ fn bad_waveform(alloc: Global, name: &[u8]) -> ResolveFault
 }
 
 /// The number of the clock of this name.
-pub fn clock_of(alloc: Global, clocks: &[Clock], name: &[u8]) -> Result<u32, ResolveFault>
+pub fn clock_of(alloc: Global, clocks: &ClockTable, name: &[u8]) -> Result<u32, ResolveFault>
     requires { length clocks.now < 2147483648 }
     ensures { Gives result (clock_of clocks.now name.now) }
 {
-    match clock_called(clocks, name) {
+    match clocks.called(name) {
         Some(clock) => Ok(clock),
         None => Err(unknown_clock(alloc, name)),
     }
@@ -87,7 +87,7 @@ fn is_waveform(period: i64, rise: i64, fall: i64) -> bool
 pub fn new_clock(
     alloc: Global,
     scene: &Scene<'_>,
-    clocks: &[Clock],
+    clocks: &ClockTable,
     name: &[u8],
     wave: Wave,
     sources: &[Object],
@@ -98,7 +98,7 @@ pub fn new_clock(
     requires fall { IsReadTime wave.fall }
     ensures { Gives result (new_clock scene.now clocks.now name.now wave.period wave.rise wave.fall sources.now) }
 {
-    if clock_called(clocks, name).is_some() {
+    if clocks.called(name).is_some() {
         return Err(clock_twice(alloc, name));
     }
     let sources = pins_named(alloc, scene, Role::Source, clocks, sources)?;

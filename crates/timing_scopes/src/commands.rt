@@ -8,10 +8,11 @@ use crate::clocks::{clock_of, new_clock, pins_named};
 use crate::delays::{delayed, unchanged};
 use crate::exceptions::new_exception;
 use crate::scopes::{Given, Paths, PinDelays, Scope, Wave};
-use bud_design::{Clock, Clocks, ExceptionKind, Exceptions, NumberedCommand};
+use bud_design::{ExceptionKind, Exceptions, NumberedCommand};
 use bud_syntax::{Object, SdcCommand};
 use std::alloc::Global;
-use timing_objects::{ResolveFault, Role, Scene};
+use std::mem;
+use timing_objects::{ClockTable, ResolveFault, Role, Scene};
 
 /// Adds a clock.
 fn add_clock(
@@ -29,11 +30,13 @@ fn add_clock(
     ensures answer { Changes (with_clock scene.now scope.old name.now wave.period wave.rise wave.fall sources.now) scope.new result }
     ensures clocks { OnOk result (length scope.new.clocks ≤ length scope.old.clocks + 1) }
 {
-    let clock = new_clock(alloc, scene, scope.clocks.as_slice(), name, wave, sources)?;
-    match scope.clocks.push(clock) {
-        Ok(()) => Ok(()),
-        Err(_) => Err(ResolveFault::NoMemory),
-    }
+    let clock = new_clock(alloc, scene, &scope.clocks, name, wave, sources)?;
+    let clocks = mem::replace(&mut scope.clocks, ClockTable::new(alloc));
+    let Ok(clocks) = clocks.with(alloc, clock) else {
+        return Err(ResolveFault::NoMemory);
+    };
+    scope.clocks = clocks;
+    Ok(())
 }
 
 /// The delays at ports after a command: its clock is judged first, then its ports.
@@ -41,7 +44,7 @@ fn new_delays(
     alloc: Global,
     scene: &Scene<'_>,
     role: Role,
-    clocks: &[Clock],
+    clocks: &ClockTable,
     delays: &PinDelays,
     given: Given<'_>,
 ) -> Result<PinDelays, ResolveFault>
@@ -82,7 +85,7 @@ fn add_input(
         alloc,
         scene,
         Role::Input,
-        scope.clocks.as_slice(),
+        &scope.clocks,
         &scope.inputs,
         given,
     )?;
@@ -104,7 +107,7 @@ fn add_output(
         alloc,
         scene,
         Role::Output,
-        scope.clocks.as_slice(),
+        &scope.clocks,
         &scope.outputs,
         given,
     )?;
@@ -126,7 +129,7 @@ fn add_exception(
     ensures answer { Changes (with_exception scene.now scope.old setup number kind paths.entry.from.now paths.entry.through.now paths.entry.to.now) scope.new result }
     ensures clocks { OnOk result (length scope.new.clocks ≤ length scope.old.clocks + 1) }
 {
-    let exception = new_exception(alloc, scene, scope.clocks.as_slice(), number, kind, paths)?;
+    let exception = new_exception(alloc, scene, &scope.clocks, number, kind, paths)?;
     if !setup {
         return Ok(());
     }
@@ -272,7 +275,7 @@ pub fn scope_of(
     ensures clocks { IfOk result (λ scope. length scope.clocks ≤ length commands.now) }
 {
     let mut scope = Scope {
-        clocks: Clocks::new(alloc),
+        clocks: ClockTable::new(alloc),
         inputs: PinDelays::new(alloc),
         outputs: PinDelays::new(alloc),
         exceptions: Exceptions::new(alloc),

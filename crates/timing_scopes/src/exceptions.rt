@@ -4,17 +4,17 @@ ghost use Rattle.timing_scopes.specs.Resolving.{part_of, group_of, new_exception
 
 use crate::clocks::pins_named;
 use crate::scopes::Paths;
-use bud_design::{Clock, Exception, ExceptionKind, Marks, PinGroups};
+use bud_design::{Exception, ExceptionKind, Marks, PinGroups};
 use bud_syntax::{Object, Objects};
 use std::alloc::Global;
-use timing_objects::{ResolveFault, Role, Scene, all_things, marks_of};
+use timing_objects::{ClockTable, ResolveFault, Role, Scene, all_things, marks_of};
 
 /// A from-part or a to-part.
 fn part_of(
     alloc: Global,
     scene: &Scene<'_>,
     role: Role,
-    clocks: &[Clock],
+    clocks: &ClockTable,
     part: &Option<Objects>,
 ) -> Result<Option<Marks>, ResolveFault>
     requires { length clocks.now < 2147483648 }
@@ -34,7 +34,7 @@ fn part_of(
 fn groups_of(
     alloc: Global,
     scene: &Scene<'_>,
-    clocks: &[Clock],
+    clocks: &ClockTable,
     groups: &[Objects],
 ) -> Result<PinGroups, ResolveFault>
     requires { length clocks.now < 2147483648 }
@@ -54,7 +54,7 @@ fn groups_of(
 pub fn new_exception(
     alloc: Global,
     scene: &Scene<'_>,
-    clocks: &[Clock],
+    clocks: &ClockTable,
     number: u32,
     kind: ExceptionKind,
     paths: Paths<'_>,

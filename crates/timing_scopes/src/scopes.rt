@@ -1,6 +1,7 @@
 use bud_base::{Listed, PinId, Text};
-use bud_design::{Clocks, Exceptions};
+use bud_design::Exceptions;
 use bud_syntax::{Edge, ObjectGroups, Objects};
+use timing_objects::ClockTable;
 
 /// A delay at a pin, from an edge of a clock or up to one.
 #[derive(Clone, Copy, Debug, PartialEq, Eq)]
@@ -15,9 +16,9 @@ pub struct PinDelay {
 pub type PinDelays = Listed<PinDelay>;
 
 /// What the commands so far say.
-#[derive(Debug, Drop)]
+#[derive(Drop)]
 pub struct Scope {
-    pub clocks: Clocks,
+    pub clocks: ClockTable,
     pub inputs: PinDelays,
     pub outputs: PinDelays,
     pub exceptions: Exceptions,

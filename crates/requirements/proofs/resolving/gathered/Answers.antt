@@ -28,7 +28,7 @@ returns c =
     record {
       reached = reached;
       are_reached = subst (λ ks. AreReached c.args.flat.now 0 ks reached) c.as_slice.ensures c.in_ok-reached.ensures;
-      clocks = refl;
+      clocks = c.into_clocks.ensures;
       exceptions = refl;
       launches =
           subst (λ xs. AreLaunches xs t.edges reached c.in_ok-launches.launches) c.as_slice-2.ensures

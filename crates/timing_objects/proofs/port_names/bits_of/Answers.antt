@@ -1,21 +1,28 @@
-use Rattle.std.proofs.Common.{◌∙◌, ap, arith}
-use Rattle.timing_objects.specs.PortNames.{numbers}
-use Rattle.timing_objects.proofs.RangeSteps.{IsGathering-first, IsGathering-more, IsGathering-skip, IsGathering-all}
+use Rattle.std.proofs.Common.{◌-◌, ◌++◌, ◌∷◌, [], map, ◌≡◌, sym, ◌∙◌, ap, subst, arith}
+use Rattle.std.specs.List.{range_with_len}
+use Rattle.timing_objects.specs.PortNames.{numbers, AreBelow}
+use Rattle.timing_objects.proofs.SpanSteps.{pin_of, numbers-of, below-of, last-of}
 use Rattle.timing_objects.proofs.port_names.bits_of.Goals as goal
-use Rattle.timing_objects.proofs.port_names.bits_of.Goals.{then-pins-number+in_ok-push, else-pins-number}
 
 pub loop-number-init : goal.loop-number-init
-loop-number-init c = IsGathering-first _ _ _ c.new-bits.ensures.items
+loop-number-init c =
+    let none : c.span_of-span.result.start - c.span_of-span.result.start ≡ 0 = omega arith in
+    c.new-bits.ensures.items ∙ sym (ap (λ m. map pin_of (range_with_len c.span_of-span.result.start m)) none)
 
 pub loop-number-preserved : goal.loop-number-preserved
-loop-number-preserved c = elim c.if-pins-number.branch [
-  | then-pins-number+in_ok-push w ↦
-      IsGathering-more c.args.pins.now c.args.place c.loop-number.bits.items c.if-pins-number.bits.items c.loop-number.number c.index-pins-number.result (omega arith) w.if-pins-number.true
-      (ap (λ v. v.items) w.bits-is ∙ w.in_ok-push.ensures.items) c.loop-number.invariant
-  | else-pins-number w ↦
-      IsGathering-skip c.args.pins.now c.args.place c.loop-number.bits.items c.if-pins-number.bits.items c.loop-number.number c.index-pins-number.result (omega arith) w.if-pins-number.false
-      (ap (λ v. v.items) w.bits-is) c.loop-number.invariant
-]
+loop-number-preserved c =
+    c.in_ok-push.ensures.items
+    ∙ (ap (λ vs. vs ++ pin_of c.loop-number.number ∷ []) c.loop-number.invariant
+    ∙ last-of c.span_of-span.result.start c.loop-number.number (omega arith))
 
 pub returns-clause-bits : goal.returns-clause-bits
-returns-clause-bits c = ap numbers c.from_vec.ensures ∙ IsGathering-all _ _ _ c.loop-number.number (omega arith) c.loop-number.invariant
+returns-clause-bits c =
+    let last : c.loop-number.number ≡ c.span_of-span.result.end = omega arith in
+    ap numbers (c.from_vec.ensures ∙ c.loop-number.invariant)
+    ∙ (numbers-of (range_with_len c.span_of-span.result.start (c.loop-number.number - c.span_of-span.result.start))
+    ∙ (ap (λ n. range_with_len c.span_of-span.result.start (n - c.span_of-span.result.start)) last ∙ sym c.span_of-span.ensures.bits))
+
+pub returns-clause-below : goal.returns-clause-below
+returns-clause-below c =
+    subst (AreBelow c.args.pins.now) (sym (c.from_vec.ensures ∙ c.loop-number.invariant))
+    (below-of c.args.pins.now (c.loop-number.number - c.span_of-span.result.start) c.span_of-span.result.start (omega arith))

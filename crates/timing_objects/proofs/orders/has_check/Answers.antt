@@ -1,0 +1,19 @@
+use Rattle.std.proofs.Common.{◌<◌, length, pos, rules, arith, ltb}
+use Rattle.std.proofs.lemmas.List.Sorted.{IsPartitionPoint-from_clause, IsPartitionedBy-ltb}
+use Rattle.bud_syntax.specs.declared.edges.Edge.TheVariants.{Rise}
+use Rattle.timing_objects.proofs.OrderSteps.{checks-rise, none-behind, at-index}
+use Rattle.timing_objects.proofs.orders.has_check.Goals as goal
+
+pub returns-then-place-checks : goal.returns-then-place-checks
+returns-then-place-checks c =
+    let point = IsPartitionPoint-from_clause (λ x. ltb x.pin.0 c.args.pin.0) c.args.checks.now c.partition_point-place.result c.partition_point-place.ensures.partitioned
+    (IsPartitionedBy-ltb (λ x. x.pin.0) c.args.checks.now c.args.pin.0 (checks-rise c.args.checks.now c.requires)) (λ a r f called. search rules) in
+    none-behind (λ x. x.pin.0) c.args.checks.now c.args.pin.0 c.partition_point-place.result (λ k d below. let less = point.0 k d (omega arith) below in grind arith) c.if-place-checks.true
+
+pub returns : goal.returns
+returns c =
+    let point = IsPartitionPoint-from_clause (λ x. ltb x.pin.0 c.args.pin.0) c.args.checks.now c.partition_point-place.result c.partition_point-place.ensures.partitioned
+    (IsPartitionedBy-ltb (λ x. x.pin.0) c.args.checks.now c.args.pin.0 (checks-rise c.args.checks.now c.requires)) (λ a r f called. search rules) in
+    let within : c.partition_point-place.result < length c.args.checks.now = grind (arith, c.partition_point-place.ensures.bound, c.if-place-checks.false) in
+    at-index (λ x. x.pin.0) c.args.checks.now c.args.pin.0 c.partition_point-place.result (record { pin = record { 0 = 0 }; clock = record { 0 = 0 }; edge = Rise; amount = pos 0 }) (checks-rise c.args.checks.now c.requires)
+    (λ k d below. let less = point.0 k d (omega arith) below in grind arith) (λ k d above inside. let most = point.1 k d above inside in grind arith) within
