@@ -1,6 +1,8 @@
 -- What links join to the ports of an instance, port by port.
 use Rattle.std.proofs.Common.{◌≡◌, ℕ, suc, ◌+◌, ◌<◌, ◌≤◌, List, [], ◌∷◌, ◌++◌, get_or, length, map, take, drop, min, replicate, Option, Some, None, All, refl, sym, ap, ◌∙◌, subst, arith, append_assoc, add-one, drop-cons}
-use Rattle.std.proofs.lemmas.List.{append-nil, length-take, drop_all}
+use Rattle.std.proofs.lemmas.List.{append-nil, length-take, drop_all, length-append, get_or_append_left, get_or-append-add, get_or_default}
+use Rattle.std.specs.Prelude.{slice_index_or}
+use Rattle.std.proofs.Common.{inl, inr}
 use Rattle.std.proofs.lemmas.Bool.{cases_lt}
 use Rattle.std.proofs.Common.{⊎_elim}
 use Rattle.bud_syntax.specs.declared.modules.Dir.{Dir}
@@ -9,12 +11,12 @@ use Rattle.bud_syntax.specs.declared.modules.Instance.{Instance}
 use Rattle.bud_syntax.specs.declared.modules.Link.{Link}
 use Rattle.bud_syntax.specs.declared.modules.Port.{Port}
 use Rattle.bud_syntax.specs.declared.modules.Module.{Module}
-use Rattle.module_nets.specs.Nets.{NetBit, joined_from, joined_to, expression_bits, or_open}
+use Rattle.module_nets.specs.Nets.{NetBit, module_called, joined_from, joined_to, expression_bits, or_open}
 use Rattle.module_nets.specs.Numbers.{range_width}
 use Rattle.module_nets.proofs.ListSteps.{take_one, drop_one}
 use Rattle.net_drivers.specs.Appending.{Appends, AreNumbers}
 use Rattle.net_drivers.specs.Joints.{directions, own_joints, joints}
-use Rattle.net_drivers.specs.Joins.{joined_ports}
+use Rattle.net_drivers.specs.Joins.{IsJoined, AreJoined, instance_at, joined_ports}
 use Rattle.net_drivers.specs.Links.{link_from, linked_pieces}
 use Rattle.net_drivers.specs.declared.slots.Joint.{Joint}
 use Rattle.net_drivers.proofs.AppendLaws.{Appends-both, Appends-same}
@@ -83,3 +85,24 @@ joints-next k dirs numbers into after d n put' =
 
 pub numbers-put : {m : Module} {bs cs : List (Option NetBit)} {old new : List (Option ℕ)} → bs ≡ cs → old ≡ [] → Appends m bs old new → AreNumbers m cs new
 numbers-put {m} {bs} {cs} {old} {new} same none appends = numbers-alone (Appends-same same (subst (λ xs. Appends m bs xs new) none appends))
+
+-- one instance more is joined
+pub AreJoined-more : (modules : List Module) (m : Module) (is : List Instance) (n : ℕ) (i : Instance) (old new : List (List Joint)) (pairs : List Joint) → n < length is → i ≡ slice_index_or is n i
+    → AreJoined modules m is n old → IsJoined m i (module_called modules i.«module») pairs → new ≡ old ++ pairs ∷ [] → AreJoined modules m is (n + 1) new
+AreJoined-more modules m is n i old new pairs within read so_far here pushed = record {
+  size = ap length pushed ∙ (length-append old (pairs ∷ []) ∙ omega (arith, so_far.size));
+  each = λ k below. elim (cases_lt k n) [
+    | inl before ↦
+        subst (IsJoined m (instance_at is k) (module_called modules (instance_at is k).«module»)) (sym (ap (λ xs. slice_index_or xs k []) pushed ∙ get_or_append_left old (pairs ∷ []) [] k (omega (arith, before, so_far.size)))) (so_far.each k before)
+    | inr past ↦
+        let last : k ≡ n = omega (arith, below, past) in
+        let end : length old + 0 ≡ k = omega (arith, last, so_far.size) in
+        let item : instance_at is k ≡ i = ap (instance_at is) last ∙ (get_or_default is n (instance_at [] 0) i within ∙ sym read) in
+        let got : slice_index_or new k [] ≡ pairs = ap (λ xs. slice_index_or xs k []) pushed ∙ (ap (λ j. slice_index_or (old ++ pairs ∷ []) j []) (sym end) ∙ get_or-append-add old (pairs ∷ []) 0 []) in
+        subst (λ x. IsJoined m x (module_called modules x.«module») (slice_index_or new k [])) (sym item) (subst (IsJoined m i (module_called modules i.«module»)) (sym got) here)
+  ];
+}
+
+-- the instance of a number, as it is read
+pub instance-read : (is : List Instance) (k : ℕ) → k < length is → instance_at is k ≡ slice_index_or is k (instance_at is k)
+instance-read is k within = get_or_default is k (instance_at [] 0) (instance_at is k) within

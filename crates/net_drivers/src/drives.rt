@@ -1,71 +1,52 @@
 ghost use Rattle.std.specs.Prelude.{◌≡◌, ◌≤◌, ◌<◌, length, All, OnOk};
 ghost use Rattle.std.specs.List.{flat_map};
-ghost use Rattle.module_nets.specs.Nets.{all_bits, expression_bits, module_called, piece_bits, pieces_of_link};
+ghost use Rattle.module_nets.specs.Nets.{all_bits, expression_bits, module_called, piece_bits};
 ghost use Rattle.net_drivers.specs.Appending.{IsFine};
 ghost use Rattle.net_drivers.specs.Drivers.{assign_drives, child_drives, instance_drives};
-ghost use Rattle.net_drivers.specs.Joins.{IsSmallChild};
+ghost use Rattle.net_drivers.specs.Joins.{AreJoinedIn, IsSmallChild, instance_at};
 ghost use Rattle.net_drivers.specs.Phases.{IsDriven, IsFilled, IsFineAssign, Counts, Stands};
 
 use crate::covers::{Ends, cover};
-use crate::joins::instance_joints;
+use crate::joins::InstanceJoints;
 use crate::numbers::put_pieces;
 use crate::slots::{Slot, drive_pins, put_assigned};
-use bud_syntax::{Assign, Dir, Instance, Piece};
-use module_nets::{Library, NetTable};
+use bud_syntax::{Assign, Dir, Piece};
+use module_nets::NetTable;
 use std::alloc::{AllocError, Global};
 
 /// An instance drives what its output ports are joined to.
 fn drive_instance(
-    alloc: Global,
-    library: &Library<'_>,
-    table: &NetTable<'_>,
+    joints: &InstanceJoints<'_, '_>,
     number: usize,
-    instance: &Instance,
     slots: &mut [Slot],
     rows: &mut [Ends],
-) -> Result<(), AllocError>
-    requires small { table.now.bits ≤ 8388608 }
-    requires slots { length slots.old ≡ length (all_bits table.now.module.now) }
+)
+    requires joined { AreJoinedIn joints.now.library.now.modules.now joints.now.table.now.module.now joints.now.each.items }
+    requires slots { length slots.old ≡ length (all_bits joints.now.table.now.module.now) }
     requires room { length slots.old ≤ 8388608 }
     requires rows { length rows.old ≡ length slots.old }
+    requires within { number < length joints.now.table.now.module.now.instances }
     requires number { number < 2147483648 }
-    requires fine { All (λ l. All (IsFine table.now.module.now) (pieces_of_link l)) instance.now.links }
-    requires child { IsSmallChild (module_called library.now.modules.now instance.now.«module») }
-    ensures { OnOk result (IsDriven (all_bits table.now.module.now) (child_drives table.now.module.now number instance.now (module_called library.now.modules.now instance.now.«module»)) slots.old slots.new rows.old rows.new) }
+    requires child { IsSmallChild (module_called joints.now.library.now.modules.now (instance_at joints.now.table.now.module.now.instances number).«module») }
+    ensures { IsDriven (all_bits joints.now.table.now.module.now) (child_drives joints.now.table.now.module.now number (instance_at joints.now.table.now.module.now.instances number) (module_called joints.now.library.now.modules.now (instance_at joints.now.table.now.module.now.instances number).«module»)) slots.old slots.new rows.old rows.new }
 {
-    let pairs = instance_joints(alloc, library, table, instance)?;
-    drive_pins(
-        slots,
-        rows,
-        Dir::Output,
-        Some(number as u32),
-        pairs.as_slice(),
-    );
-    Ok(())
+    let pairs = joints.of(number);
+    drive_pins(slots, rows, Dir::Output, Some(number as u32), pairs);
 }
 
 /// Instances drive what their output ports are joined to.
-pub fn drive_instances(
-    alloc: Global,
-    library: &Library<'_>,
-    table: &NetTable<'_>,
-    instances: &[Instance],
-    slots: &mut [Slot],
-    rows: &mut [Ends],
-) -> Result<(), AllocError>
-    requires small { table.now.bits ≤ 8388608 }
-    requires slots { length slots.old ≡ length (all_bits table.now.module.now) }
+pub fn drive_instances(joints: &InstanceJoints<'_, '_>, slots: &mut [Slot], rows: &mut [Ends])
+    requires joined { AreJoinedIn joints.now.library.now.modules.now joints.now.table.now.module.now joints.now.each.items }
+    requires slots { length slots.old ≡ length (all_bits joints.now.table.now.module.now) }
     requires room { length slots.old ≤ 8388608 }
     requires rows { length rows.old ≡ length slots.old }
-    requires instances { length instances.now < 2147483648 }
-    requires fine { All (λ i. All (λ l. All (IsFine table.now.module.now) (pieces_of_link l)) i.links) instances.now }
-    requires children { All (λ i. IsSmallChild (module_called library.now.modules.now i.«module»)) instances.now }
-    ensures { OnOk result (IsDriven (all_bits table.now.module.now) (instance_drives library.now.modules.now table.now.module.now 0 instances.now) slots.old slots.new rows.old rows.new) }
+    requires instances { length joints.now.table.now.module.now.instances < 2147483648 }
+    requires children { All (λ i. IsSmallChild (module_called joints.now.library.now.modules.now i.«module»)) joints.now.table.now.module.now.instances }
+    ensures { IsDriven (all_bits joints.now.table.now.module.now) (instance_drives joints.now.library.now.modules.now joints.now.table.now.module.now 0 joints.now.table.now.module.now.instances) slots.old slots.new rows.old rows.new }
 {
-    for (number, instance) in instances.iter().enumerate() {
-        drive_instance(alloc, library, table, number, instance, slots, rows)?;
+    for number in 0..joints.count() {
+        drive_instance(joints, number, slots, rows);
     }
-    Ok(())
 }
 
 /// An assign drives the bits of its left side by those of its right side.

@@ -3,11 +3,12 @@ ghost use Rattle.module_nets.specs.Nets.{joined_bits, module_called, pieces_of_l
 ghost use Rattle.net_drivers.specs.Appending.{Appends, AreNumbers, IsFine};
 ghost use Rattle.net_drivers.specs.Links.{IsJoining};
 ghost use Rattle.net_drivers.specs.Joints.{directions, joints, own_joints};
-ghost use Rattle.net_drivers.specs.Joins.{IsJoined, joined_ports};
+ghost use Rattle.net_drivers.specs.Joins.{IsJoined, AreJoined, AreJoinedIn, instance_at, joined_ports};
 
 use crate::links::{Joining, link_of};
 use crate::numbers::put_link;
 use crate::slots::Joint;
+use bud_base::Listed;
 use bud_syntax::{Dir, Instance, Link, Port};
 use module_nets::{Header, Library, NetTable, range_width};
 use std::alloc::{AllocError, Global};
@@ -134,7 +135,7 @@ fn child_joints(
 }
 
 /// The port bits of an instance, none where its module isn't in the netlist.
-pub fn instance_joints(
+fn instance_joints(
     alloc: Global,
     library: &Library<'_>,
     table: &NetTable<'_>,
@@ -147,5 +148,74 @@ pub fn instance_joints(
     match library.child(instance.module.as_slice()) {
         Some(header) => child_joints(alloc, table, header, instance),
         None => Ok(Vec::new(alloc)),
+    }
+}
+
+/// The port bits of an instance.
+pub type Joints = Listed<Joint>;
+
+/// The port bits of each instance of a list.
+fn all_joints(
+    alloc: Global,
+    library: &Library<'_>,
+    table: &NetTable<'_>,
+    instances: &[Instance],
+) -> Result<Vec<Joints>, AllocError>
+    requires small { table.now.bits ≤ 8388608 }
+    requires fine { All (λ i. All (λ l. All (IsFine table.now.module.now) (pieces_of_link l)) i.links) instances.now }
+    ensures { IfOk result (λ each. AreJoined library.now.modules.now table.now.module.now instances.now (length instances.now) each.items) }
+{
+    let mut each = Vec::with_capacity(alloc, instances.len())?;
+    for instance in instances {
+        let pairs = instance_joints(alloc, library, table, instance)?;
+        each.push(Joints::from_vec(pairs))?;
+    }
+    Ok(each)
+}
+
+/// The port bits of the instances of a module.
+#[derive(Drop)]
+pub struct InstanceJoints<'j, 'm> {
+    pub library: &'j Library<'m>,
+    pub table: &'j NetTable<'m>,
+    pub each: Vec<Joints>,
+}
+
+impl<'j, 'm> InstanceJoints<'j, 'm> {
+    /// Joins the ports of each instance of a module, once.
+    pub fn new(
+        alloc: Global,
+        library: &'j Library<'m>,
+        table: &'j NetTable<'m>,
+    ) -> Result<InstanceJoints<'j, 'm>, AllocError>
+        requires small { table.now.bits ≤ 8388608 }
+        requires fine { All (λ i. All (λ l. All (IsFine table.now.module.now) (pieces_of_link l)) i.links) table.now.module.now.instances }
+        ensures library { IfOk result (λ joints. joints.library.now ≡ library.now) }
+        ensures table { IfOk result (λ joints. joints.table.now ≡ table.now) }
+        ensures joined { IfOk result (λ joints. AreJoinedIn library.now.modules.now table.now.module.now joints.each.items) }
+    {
+        let instances = table.module.instances.as_slice();
+        let each = all_joints(alloc, library, table, instances)?;
+        Ok(InstanceJoints {
+            library,
+            table,
+            each,
+        })
+    }
+
+    /// How many instances there are.
+    pub fn count(&self) -> usize
+        ensures { result ≡ length self.now.table.now.module.now.instances }
+    {
+        self.table.module.instances.len()
+    }
+
+    /// The port bits of the instance of a number.
+    pub fn of(&self, number: usize) -> &[Joint]
+        requires joined { AreJoinedIn self.now.library.now.modules.now self.now.table.now.module.now self.now.each.items }
+        requires within { number < length self.now.table.now.module.now.instances }
+        ensures { IsJoined self.now.table.now.module.now (instance_at self.now.table.now.module.now.instances number) (module_called self.now.library.now.modules.now (instance_at self.now.table.now.module.now.instances number).«module») result.now }
+    {
+        self.each[number].as_slice()
     }
 }

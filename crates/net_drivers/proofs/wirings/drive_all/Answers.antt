@@ -11,8 +11,8 @@ use Rattle.net_drivers.proofs.wirings.drive_all.Goals as goal
 
 pub drive_pins-requires : goal.drive_pins-requires
 drive_pins-requires c =
-    let m = c.args.table.now.module.now in
-    let fits = bits_fit m c.args.table.now.apart in
+    let m = c.args.joints.now.table.now.module.now in
+    let fits = bits_fit m c.args.joints.now.table.now.apart in
     let size = ap length c.requires.own ∙ length-own_joints 0 (directions m.ports) in
     record {
       bits = subst (BitsWithin (length c.args.slots.now)) (sym c.requires.own) (own-within (length c.args.slots.now) 0 (directions m.ports) (omega (arith, fits, c.requires.slots)));
@@ -23,8 +23,8 @@ drive_pins-requires c =
 
 pub drive_constants-requires : goal.drive_constants-requires
 drive_constants-requires c =
-    let m = c.args.table.now.module.now in
-    let fits = bits_fit m c.args.table.now.apart in
+    let m = c.args.joints.now.table.now.module.now in
+    let fits = bits_fit m c.args.joints.now.table.now.apart in
     let size = ap length c.requires.own ∙ length-own_joints 0 (directions m.ports) in
     let nets = ap widths c.as_slice-nets.ensures in
     record {
@@ -35,27 +35,26 @@ drive_constants-requires c =
 
 pub drive_instances-requires : goal.drive_instances-requires
 drive_instances-requires c = record {
-  small = omega (arith, c.args.table.now.all, c.requires.clean.small);
+  joined = c.requires.joined;
   slots = omega (arith, c.requires.slots);
   room = omega (arith, c.requires.slots, c.requires.clean.small);
   rows = omega (arith, c.requires.rows);
-  instances = rw c.as_slice-instances.ensures c.requires.clean.instances;
-  fine = rw c.as_slice-instances.ensures c.requires.clean.links;
-  children = rw c.as_slice-instances.ensures c.requires.clean.children;
+  instances = c.requires.clean.instances;
+  children = c.requires.clean.children;
 }
 
 pub cover_assigns-requires : goal.cover_assigns-requires
 cover_assigns-requires c = record {
-  small = omega (arith, c.args.table.now.all, c.requires.clean.small);
+  small = omega (arith, c.args.joints.now.table.now.all, c.requires.clean.small);
   fine = rw c.as_slice-assigns.ensures c.requires.clean.assigns;
   rows = omega (arith, c.requires.rows, c.requires.slots);
 }
 
 pub returns : goal.returns
 returns c =
-    let m = c.args.table.now.module.now in
-    let apart = c.args.table.now.apart in
-    let modules = c.args.library.now.modules.now in
+    let m = c.args.joints.now.table.now.module.now in
+    let apart = c.args.joints.now.table.now.apart in
+    let modules = c.args.joints.now.library.now.modules.now in
     let size = ap length c.requires.own ∙ length-own_joints 0 (directions m.ports) in
     record {
       middle = c.drive_instances.new.rows;
@@ -64,6 +63,6 @@ returns c =
           (IsDriven-constants m (length c.args.own.now) apart size
           (c.drive_constants.ensures.slots ∙ ap (λ ns. filled (constant_puts (length c.args.own.now) ns) c.drive_pins.new.slots) c.as_slice-nets.ensures)
           (c.drive_constants.ensures.rows ∙ ap (λ ns. counted (constant_puts (length c.args.own.now) ns) c.drive_pins.new.rows) c.as_slice-nets.ensures))
-          (IsDriven-same (ap (instance_drives modules m 0) c.as_slice-instances.ensures) c.in_ok-drive_instances.ensures));
+          c.drive_instances.ensures);
       assigns = Counts-same (ap (flat_map (assign_drives m)) c.as_slice-assigns.ensures) c.cover_assigns.ensures;
     }
