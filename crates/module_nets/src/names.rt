@@ -44,11 +44,26 @@ pub fn put_printed(into: &mut Vec<u8>, name: &[u8]) -> Result<(), ElabFault>
     Ok(())
 }
 
-/// The printed form of an identifier.
+/// A copy of a name.
+fn copied(alloc: Global, name: &[u8]) -> Result<Text, ElabFault>
+    ensures copied { IfOk result (λ text. text ≡ name.now) }
+    ensures memory { IsMemory result }
+{
+    match Text::from_slice(alloc, name) {
+        Ok(text) => Ok(text),
+        Err(_) => Err(ElabFault::NoMemory),
+    }
+}
+
+/// The printed form of an identifier; one of ordinary bytes alone is copied as it stands.
+#[tactic(auto, using(crate::proofs::Bytes::bytes_same))]
 pub fn printed(alloc: Global, name: &[u8]) -> Result<Text, ElabFault>
     ensures printed { IfOk result (λ text. text ≡ printed name.now) }
     ensures memory { IsMemory result }
 {
+    if is_printed_as(name, name) {
+        return copied(alloc, name);
+    }
     let mut text = Vec::new(alloc);
     put_printed(&mut text, name)?;
     Ok(Text::from_vec(text))
