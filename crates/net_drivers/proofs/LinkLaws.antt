@@ -1,8 +1,8 @@
 -- Which link joins a port.
 use Rattle.std.proofs.Common.{◌≡◌, ℕ, zero, suc, ◌+◌, ◌-◌, ◌<◌, ◌≤◌, ◌==◌, nat_le, Bool, true, false, cond, List, [], ◌∷◌, ◌++◌, length, get_or, drop, Option, Some, None, refl, sym, ◌∙◌, ap, subst, arith, ⊎_elim, add-one}
 use Rattle.std.proofs.lemmas.Bool.{cases_eq, le-leb, leb-true}
-use Rattle.std.proofs.lemmas.Bool.Decides.{nat_tests}
-use Rattle.std.proofs.lemmas.List.{get_or-set_other, at_drop_more}
+use Rattle.std.proofs.lemmas.Bool.Decides.{nat_tests, Decides-eqb}
+use Rattle.std.proofs.lemmas.List.{get_or-set_other, at_drop_more, get_or_default}
 use Rattle.std.proofs.lemmas.Grind.{get_or-set_at}
 use Rattle.std.proofs.Math.ListN.{set, length-set}
 use Rattle.std.specs.List.{position_from}
@@ -201,6 +201,26 @@ pub named_link-is : (child : Module) (links : List Link) (named : List (Option �
     → get_or named first None ≡ position_from (names name) 0 links
 named_link-is child links named name first are is =
     are.each first (at_place (λ p. bytes_eq p.name name) child.ports first is).within ∙ position-tests (names_port child first) (names name) 0 links (names-same child name first is)
+
+is-there : (place : ℕ) (o : Option ℕ) → is_at place o ≡ true → o ≡ Some place
+is-there place None is = absurd (cc)
+is-there place (Some n) is = ap (λ k. Some k) ((Decides-eqb n place).0 is)
+
+-- the port at the place that a link names has that name first
+link-names : (child : Module) (place : ℕ) (link : Link) → names_port child place link ≡ true → port_called child (get_or child.ports place no_port).name ≡ Some place
+link-names child place (Named port pieces) is =
+    let found : port_called child port ≡ Some place = is-there place (port_called child port) is in
+    ap (port_called child) (port_at-named child port place found) ∙ found
+link-names child place (Placed pieces) is = absurd (cc)
+
+-- the link that is noted at a port is the first that names it
+pub noted-is : (child : Module) (links : List Link) (named : List (Option ℕ)) (place : ℕ) (port : Port) (n : ℕ) → AreNamedLinks child links named → place < length child.ports
+    → port ≡ get_or child.ports place port → get_or named place None ≡ Some n → position_from (names port.name) 0 links ≡ Some n
+noted-is child links named place port n are within read held =
+    let found : position_from (names_port child place) 0 links ≡ Some n = sym (are.each place within) ∙ held in
+    let first = link-names child place (get_or links n (Placed [])) ((at_place (names_port child place) links n found).passes (Placed [])) in
+    let same : get_or child.ports place no_port ≡ port = get_or_default child.ports place no_port port within ∙ sym read in
+    sym (named_link-is child links named port.name place are (ap (λ (p : Port). port_called child p.name) (sym same) ∙ first)) ∙ held
 
 nowhere : {X : Type 0} (test : X → Bool) (j : ℕ) (xs : List X) → position_from test j xs ≡ None → (k : ℕ) (d : X) → k < length xs → test (get_or xs k d) ≡ false
 nowhere test j [] none k d within = absurd (omega (arith, within))

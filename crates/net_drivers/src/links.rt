@@ -110,8 +110,8 @@ fn earlier(a: Option<usize>, b: Option<usize>) -> Option<usize>
     }
 }
 
-/// The first link that names a port of the module.
-fn named_link(
+/// The first link that names a port of the module, as it is noted at the first port of that name.
+fn first_link(
     header: &Header<'_>,
     links: &[Link],
     joining: &Joining,
@@ -126,6 +126,25 @@ fn named_link(
     match header.find(port.name.as_slice()) {
         Some(first) => joining.named[first],
         None => None,
+    }
+}
+
+/// The first link that names a port of the module. What is noted at the port itself is it.
+fn named_link(
+    header: &Header<'_>,
+    links: &[Link],
+    joining: &Joining,
+    place: usize,
+    port: &Port,
+) -> Option<usize>
+    requires within { place < length header.now.module.now.ports }
+    requires port { port.now ≡ slice_index_or header.now.module.now.ports place port.now }
+    requires joining { IsJoining header.now.module.now links.now joining.now.named.items joining.now.placed.items }
+    ensures { result ≡ position_from (names port.now.name) 0 links.now }
+{
+    match joining.named[place] {
+        Some(number) => Some(number),
+        None => first_link(header, links, joining, place, port),
     }
 }
 
