@@ -103,7 +103,7 @@ fn survey_module(
     if survey.known[kind] {
         return Ok(());
     }
-    match local_wires(alloc, library, nets, trail.path.as_slice()) {
+    match local_wires(alloc, library, nets, trail.path.as_slice(), kind) {
         Ok(wires) => {
             note_wires(survey, kind, wires);
             Ok(())
@@ -259,7 +259,8 @@ fn begin(
     Ok(Child { kind, place })
 }
 
-/// Places an instance. A plain one is entered, and those in it are still to be placed.
+/// Places an instance. A plain one is entered, and those in it are still to be placed. Its module may well be the one of the number
+/// `near`.
 fn put_instance(
     alloc: Global,
     library: &Library<'_>,
@@ -267,12 +268,13 @@ fn put_instance(
     instance: &Instance,
     here: u32,
     levels: u32,
+    near: usize,
 ) -> Result<Option<Child>, ElabFault>
     requires few { length library.now.modules.now < 2147483648 }
     requires walk { IsWalk library.now.modules.now walk.old }
     ensures { IsStep library.now.modules.now levels (step library.now.modules.now levels walk.old.trail here instance.now (built_of walk.old)) walk.old walk.new result }
 {
-    let Some(kind) = library.find(instance.module.as_slice()) else {
+    let Some(kind) = library.find(instance.module.as_slice(), near) else {
         return Ok(None);
     };
     if module_at(library.modules, kind).leaf {
@@ -288,7 +290,7 @@ fn put_instance(
     }
 }
 
-/// Places an instance, and what is inside it.
+/// Places an instance, whose module may well be the one of the number `near`, and what is inside it.
 #[cycle(walk)]
 fn put_whole(
     alloc: Global,
@@ -297,12 +299,13 @@ fn put_whole(
     instance: &Instance,
     here: u32,
     levels: u32,
+    near: usize,
 ) -> Result<(), ElabFault>
     requires few { length library.now.modules.now < 2147483648 }
     requires walk { IsWalk library.now.modules.now walk.old }
     ensures { IsPlacing library.now.modules.now (step library.now.modules.now levels walk.old.trail here instance.now (built_of walk.old)) walk.old walk.new result }
 {
-    let begun = put_instance(alloc, library, walk, instance, here, levels)?;
+    let begun = put_instance(alloc, library, walk, instance, here, levels, near)?;
     let Some(child) = begun else {
         return Ok(());
     };
@@ -331,8 +334,9 @@ pub fn put_inside(
     ensures { IsPlacing library.now.modules.now (steps library.now.modules.now levels kind walk.old.trail here (module_at library.now.modules.now kind).instances (built_of walk.old)) walk.old walk.new result }
 {
     let module = module_at(library.modules, kind);
-    for instance in module.instances.as_slice() {
-        put_whole(alloc, library, walk, instance, here, levels)?;
+    for (k, instance) in module.instances.as_slice().iter().enumerate() {
+        let near = library.guess(kind, k);
+        put_whole(alloc, library, walk, instance, here, levels, near)?;
     }
     Ok(())
 }

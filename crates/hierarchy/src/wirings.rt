@@ -62,19 +62,20 @@ fn twice(alloc: Global, nets: &NetTable<'_>, path: &[Text], number: usize) -> El
 }
 
 /// The wires of a module whose body isn't refused; TwoDrivers for the first net bit that more than one thing drives, its
-/// name below the path of the module's instance.
+/// name below the path of the module's instance. `kind` is the module's number.
 pub fn local_wires(
     alloc: Global,
     library: &Library<'_>,
     nets: &NetTable<'_>,
     path: &[Text],
+    kind: usize,
 ) -> Result<LocalWires, ElabFault>
     requires clean { IsClean library.now.modules.now nets.now.module.now }
     ensures answer { Answers (two_drivers library.now.modules.now nets.now.module.now path.now) result }
     ensures once { IfOk result (λ wires. twice_driven library.now.modules.now nets.now.module.now ≡ None) }
     ensures wires { IfOk result (λ wires. wires ≡ local_wires 4194304 library.now.modules.now nets.now.module.now) }
 {
-    match wire_module(alloc, library, nets) {
+    match wire_module(alloc, library, nets, kind) {
         Err(_) => Err(ElabFault::NoMemory),
         Ok(Wiring::Twice(number)) => Err(twice(alloc, nets, path, number as usize)),
         Ok(Wiring::Wired(wires)) => Ok(LocalWires::from_vec(wires)),

@@ -1,6 +1,5 @@
 -- What tables and sets know behind one more name.
 use Rattle.std.proofs.Common.{◌≡◌, ℕ, ◌+◌, ◌<◌, ◌≤◌, ◌||◌, Bool, true, false, Option, Some, None, List, [], ◌∷◌, ◌++◌, take, drop, get_or, length, map, refl, sym, ap, ◌∙◌, subst, arith, append_assoc, if◌then◌else◌}
-use Rattle.std.specs.Borrow.{Bor}
 use Rattle.std.specs.List.{list_any, position_from}
 use Rattle.std.specs.Map.{lookup}
 use Rattle.std.specs.Option.{option_or}
@@ -12,25 +11,26 @@ use Rattle.std.proofs.lemmas.Option.{none-some}
 use Rattle.std.proofs.lemmas.List.Folds.{list_any-append}
 use Rattle.bud_design.specs.Lists.{first_again, has_name}
 use Rattle.module_nets.specs.Tables.{seen_behind, HasNames, IsAgain, IsNumbered}
+use Rattle.module_nets.specs.declared.keys.Key.{Key}
 use Rattle.module_nets.proofs.Bytes.{by_test, bytes_same, bytes_turned}
 use Rattle.module_nets.proofs.ListSteps.{take_one, drop_one, or_none, position_from-last}
 
 -- what is found behind an entry
-pub found_behind : {V : Type 0} (es : List (Bor (List ℕ) × V)) (key : Bor (List ℕ)) (v : V) (q : List ℕ) →
-    lookup (λ (k : Bor (List ℕ)). bytes_eq q k.now) (insert_entry (λ (x y : Bor (List ℕ)). bytes_eq x.now y.now) es key v)
-    ≡ (if bytes_eq key.now q then Some v else lookup (λ (k : Bor (List ℕ)). bytes_eq q k.now) es)
-found_behind [] key v q = rw (bytes_turned q key.now) refl
+pub found_behind : {V : Type 0} (es : List (Key × V)) (key : Key) (v : V) (q : List ℕ) →
+    lookup (λ (k : Key). bytes_eq q k.name.now) (insert_entry (λ (x y : Key). bytes_eq x.name.now y.name.now) es key v)
+    ≡ (if bytes_eq key.name.now q then Some v else lookup (λ (k : Key). bytes_eq q k.name.now) es)
+found_behind [] key v q = rw (bytes_turned q key.name.now) refl
 found_behind (e ∷ es) key v q =
-    by_test (bytes_eq key.now e.0.now)
+    by_test (bytes_eq key.name.now e.0.name.now)
     (λ same.
-    let is : key.now ≡ e.0.now = bytes_same key.now e.0.now same in
-    let turned : bytes_eq q e.0.now ≡ bytes_eq key.now q = ap (bytes_eq q) (sym is) ∙ bytes_turned q key.now in
-    by_test (bytes_eq key.now q) (λ h. rw (same, turned, h) refl) (λ h. rw (same, turned, h) refl))
+    let is : key.name.now ≡ e.0.name.now = bytes_same key.name.now e.0.name.now same in
+    let turned : bytes_eq q e.0.name.now ≡ bytes_eq key.name.now q = ap (bytes_eq q) (sym is) ∙ bytes_turned q key.name.now in
+    by_test (bytes_eq key.name.now q) (λ h. rw (same, turned, h) refl) (λ h. rw (same, turned, h) refl))
     (λ other.
-    by_test (bytes_eq q e.0.now)
+    by_test (bytes_eq q e.0.name.now)
     (λ same.
-    let is : q ≡ e.0.now = bytes_same q e.0.now same in
-    let apart : bytes_eq key.now q ≡ false = ap (bytes_eq key.now) is ∙ other in
+    let is : q ≡ e.0.name.now = bytes_same q e.0.name.now same in
+    let apart : bytes_eq key.name.now q ≡ false = ap (bytes_eq key.name.now) is ∙ other in
     rw (other, same, apart) refl)
     (λ h. rw (other, h) (found_behind es key v q)))
 
@@ -69,23 +69,23 @@ or_turned false true = refl
 or_turned false false = refl
 
 -- a name that is there already
-among_same : (ks : List (Bor (List ℕ))) (key q : List ℕ) → list_any (λ (k : Bor (List ℕ)). bytes_eq key k.now) ks ≡ true → bytes_eq q key ≡ true
-    → list_any (λ (k : Bor (List ℕ)). bytes_eq q k.now) ks ≡ true
+among_same : (ks : List Key) (key q : List ℕ) → list_any (λ (k : Key). bytes_eq key k.name.now) ks ≡ true → bytes_eq q key ≡ true
+    → list_any (λ (k : Key). bytes_eq q k.name.now) ks ≡ true
 among_same ks key q among same = rw (bytes_same q key same) among
 
 -- what a set has behind one more name
-pub noted_behind : (ks : List (Bor (List ℕ))) (key : Bor (List ℕ)) (q : List ℕ) →
-    list_any (λ (k : Bor (List ℕ)). bytes_eq q k.now) (insert_key (λ (x y : Bor (List ℕ)). bytes_eq x.now y.now) ks key)
-    ≡ (bytes_eq q key.now || list_any (λ (k : Bor (List ℕ)). bytes_eq q k.now) ks)
+pub noted_behind : (ks : List Key) (key : Key) (q : List ℕ) →
+    list_any (λ (k : Key). bytes_eq q k.name.now) (insert_key (λ (x y : Key). bytes_eq x.name.now y.name.now) ks key)
+    ≡ (bytes_eq q key.name.now || list_any (λ (k : Key). bytes_eq q k.name.now) ks)
 noted_behind ks key q =
-    by_test (list_any (λ (k : Bor (List ℕ)). bytes_eq key.now k.now) ks)
-    (λ among. by_test (bytes_eq q key.now)
-    (λ same. rw (among, same, among_same ks key.now q among same) refl)
+    by_test (list_any (λ (k : Key). bytes_eq key.name.now k.name.now) ks)
+    (λ among. by_test (bytes_eq q key.name.now)
+    (λ same. rw (among, same, among_same ks key.name.now q among same) refl)
     (λ other. rw (among, other) refl))
     (λ new. rw new
-    (list_any-append (λ (k : Bor (List ℕ)). bytes_eq q k.now) ks (key ∷ [])
-    ∙ ap (λ b. list_any (λ (k : Bor (List ℕ)). bytes_eq q k.now) ks || b) (or_false (bytes_eq q key.now))
-    ∙ or_turned (list_any (λ (k : Bor (List ℕ)). bytes_eq q k.now) ks) (bytes_eq q key.now)))
+    (list_any-append (λ (k : Key). bytes_eq q k.name.now) ks (key ∷ [])
+    ∙ ap (λ b. list_any (λ (k : Key). bytes_eq q k.name.now) ks || b) (or_false (bytes_eq q key.name.now))
+    ∙ or_turned (list_any (λ (k : Key). bytes_eq q k.name.now) ks) (bytes_eq q key.name.now)))
 
 -- ---- names seen
 pub seen_behind-append : (seen xs ys : List (List ℕ)) → seen_behind seen (xs ++ ys) ≡ seen_behind (seen_behind seen xs) ys

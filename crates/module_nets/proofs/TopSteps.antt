@@ -1,26 +1,24 @@
 -- What a name means among modules, and which are the roots.
-use Rattle.std.proofs.Common.{◌≡◌, ℕ, zero, suc, ◌+◌, ◌<◌, ◌≤◌, ◌&&◌, ◌||◌, not, Bool, true, false, Option, Some, None, List, [], ◌∷◌, ◌++◌, take, drop, get_or, length, map, find, filter, refl, sym, ap, ◌∙◌, subst, arith, if◌then◌else◌}
-use Rattle.std.specs.Prelude.{Result, Ok, Err, IfSome}
-use Rattle.std.specs.List.{flat_map, position_from}
+use Rattle.std.proofs.Common.{◌≡◌, ℕ, ◌+◌, ◌<◌, ◌&&◌, ◌||◌, not, Bool, true, false, Option, Some, None, List, [], ◌∷◌, ◌++◌, take, drop, get_or, length, map, find, filter, refl, sym, ap, ◌∙◌, subst}
+use Rattle.std.specs.Prelude.{Ok, Err, IfSome}
+use Rattle.std.specs.List.{position_from}
 use Rattle.std.specs.Option.{option_or, option_map}
 use Rattle.std.specs.Str.{bytes_eq}
 use Rattle.std.proofs.lemmas.List.{map-append, append-nil, get_or-drop}
 use Rattle.std.proofs.lemmas.List.Concat.{flat_map-append}
 use Rattle.std.proofs.lemmas.List.Elements.{filter_agree}
-use Rattle.std.proofs.lemmas.Option.{none-some, same_Some}
 use Rattle.bud_design.specs.Lists.{first_again, has_name, only}
-use Rattle.bud_design.specs.Names.{Named, object_of, meaning, printed, plain}
+use Rattle.bud_design.specs.Names.{Named, object_of, printed, plain}
 use Rattle.bud_design.proofs.NameLaws.{plain-printed}
 use Rattle.bud_syntax.specs.declared.modules.Instance.{Instance}
 use Rattle.bud_syntax.specs.declared.modules.Module.{Module}
 use Rattle.module_nets.specs.Headers.{module_number}
 use Rattle.module_nets.specs.Tables.{seen_behind, HasNames}
-use Rattle.module_nets.specs.Tops.{named_modules, meant, plain_module, is_root, instantiated, roots, one_root, chosen, top_module, module_twice, unless_refused, module_at, IsPlainNumber}
-use Rattle.module_nets.specs.declared.faults.ElabFault.{ElabFault}
+use Rattle.module_nets.specs.Tops.{meant, plain_module, is_root, instantiated, roots, one_root, chosen, top_module, unless_refused, module_at, IsPlainNumber}
 use Rattle.module_nets.specs.declared.faults.ElabFault.TheVariants.{ModuleTwice, NoTop, ManyTops}
 use Rattle.module_nets.proofs.Bytes.{by_test, bytes_same, bytes_turned}
-use Rattle.module_nets.proofs.ListSteps.{take_one, at_place, no_place, at_start, IsFirstAt, first_place, filter_none, filter_first}
-use Rattle.module_nets.proofs.NetLaws.{find-map, has_behind, or_none, again_head, or_parts}
+use Rattle.module_nets.proofs.ListSteps.{take_one, at_place, no_place, at_start, filter_none, filter_first}
+use Rattle.module_nets.proofs.NetLaws.{find-map, has_behind, or_none, again_head}
 use Rattle.module_nets.proofs.TableSteps.{seen_behind-append}
 
 -- ---- what a name means

@@ -1,16 +1,14 @@
 -- Each piece of a module is a constant or of one of its nets.
-use Rattle.std.proofs.Common.{◌≡◌, ℕ, zero, suc, ◌+◌, ◌<◌, ◌||◌, Bool, true, false, Option, Some, None, List, [], ◌∷◌, ◌++◌, get_or, length, map, All, refl, sym, ap, ◌∙◌, subst, arith}
-use Rattle.std.specs.List.{flat_map, list_any}
+use Rattle.std.proofs.Common.{◌≡◌, ℕ, ◌||◌, Bool, true, false, Option, Some, None, List, [], ◌∷◌, ◌++◌, get_or, All, refl, ap, ◌∙◌, subst}
+use Rattle.std.specs.List.{flat_map}
 use Rattle.std.specs.Str.{bytes_eq}
 use Rattle.std.proofs.lemmas.List.Concat.{flat_map-cons}
 use Rattle.std.proofs.lemmas.List.Elements.{All-nil, All-cons, All-head, All-tail}
 use Rattle.std.proofs.lemmas.List.Folds.{list_any-append}
 use Rattle.bud_design.specs.Lists.{each_once, has_name}
-use Rattle.bud_syntax.specs.declared.modules.Piece.{Piece}
 use Rattle.bud_syntax.specs.declared.modules.Module.{Module}
 use Rattle.module_nets.specs.NetTables.{IsNetOf, IsOfNet}
 use Rattle.module_nets.specs.Nets.{implicit_nets, names_if, piece_net, pieces_in, pieces_of_link}
-use Rattle.module_nets.specs.Numbers.{module_nets}
 use Rattle.module_nets.proofs.Bytes.{by_test, bytes_same, bytes_itself}
 use Rattle.module_nets.proofs.NetLaws.{declared_before, net_names_are}
 

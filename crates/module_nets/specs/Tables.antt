@@ -1,20 +1,20 @@
 -- What tables know of names.
 use Rattle.std.specs.Prelude.{◌≡◌, ℕ, Bool, List, [], ◌∷◌, Option, None}
-use Rattle.std.specs.Borrow.{Bor}
 use Rattle.std.specs.List.{list_any, position_from}
 use Rattle.std.specs.Map.{lookup}
 use Rattle.std.specs.Str.{bytes_eq}
 use Rattle.bud_design.specs.Lists.{first_again, has_name}
 use Rattle.indexmap.specs.IndexMap.{IndexMap}
 use Rattle.indexmap.specs.IndexSet.{IndexSet}
+use Rattle.module_nets.specs.declared.keys.Key.{Key}
 
 -- what a table has at a name
-abbrev pub known : {V S : Type 0} → IndexMap (Bor (List ℕ)) V S → List ℕ → Option V
-known table name = lookup (λ (k : Bor (List ℕ)). bytes_eq name k.now) table.entries
+abbrev pub known : {V S : Type 0} → IndexMap Key V S → List ℕ → Option V
+known table name = lookup (λ (k : Key). bytes_eq name k.name.now) table.entries
 
 -- whether a set has a name
-abbrev pub holds : {S : Type 0} → IndexSet (Bor (List ℕ)) S → List ℕ → Bool
-holds names name = list_any (λ (k : Bor (List ℕ)). bytes_eq name k.now) names.keys
+abbrev pub holds : {S : Type 0} → IndexSet Key S → List ℕ → Bool
+holds names name = list_any (λ (k : Key). bytes_eq name k.name.now) names.keys
 
 -- the table has each name's first place in the list
 abbrev pub IsNumbered : {X : Type 0} → (X → List ℕ) → List X → (List ℕ → Option ℕ) → Type 0

@@ -6,7 +6,7 @@ ghost use Rattle.module_nets.specs.Refusals.{IsMemory};
 ghost use Rattle.module_nets.specs.Tables.{known, IsNumbered};
 
 use crate::faults::ElabFault;
-use crate::tables::{Places, known, numbered};
+use crate::tables::{Places, known_near, numbered};
 use bud_syntax::{Module, Port, Range};
 use std::alloc::Global;
 
@@ -70,11 +70,11 @@ impl<'m> Header<'m> {
         })
     }
 
-    /// The place of the first port of this name.
-    pub fn find(&self, port: &[u8]) -> Option<usize>
+    /// The place of the first port of this name, which may well be at the place `near`.
+    pub fn find(&self, port: &[u8], near: usize) -> Option<usize>
         ensures { result ≡ port_called self.now.module.now port.now }
     {
-        known(&self.places, port)
+        known_near(&self.places, port, near)
     }
 
     /// The port at a place.

@@ -54,12 +54,23 @@ fn refuse_top_inout(alloc: Global, module: &Module, path: &[Text]) -> Result<(),
     }
 }
 
+/// How many names a module declares, or `usize::MAX` where they are more.
+fn declared_count(module: &Module) -> usize {
+    module
+        .ports
+        .len()
+        .saturating_add(module.nets.len())
+        .saturating_add(module.instances.len())
+}
+
 /// The first name that a module declares and that stands before.
 fn name_again<'m>(alloc: Global, module: &'m Module) -> Result<Option<&'m [u8]>, ElabFault>
     ensures again { IfOk result (λ r. option_map (λ n. n.now) r ≡ lists.first_again [] (declared_names «module».now)) }
     ensures memory { IsMemory result }
 {
-    let mut names = Names::new(alloc);
+    let Ok(mut names) = Names::with_capacity(alloc, declared_count(module)) else {
+        return Err(ElabFault::NoMemory);
+    };
     let again = first_again(&mut names, module.ports.as_slice())?;
     if again.is_some() {
         return Ok(again);
@@ -81,29 +92,30 @@ pub fn refuse_name_twice(alloc: Global, module: &Module, path: &[Text]) -> Resul
     }
 }
 
-/// Refuses a select outside its net's range.
+/// Refuses a select outside its net's range, the pieces being numbered from `first` on.
 fn refuse_select(
     alloc: Global,
     nets: &NetTable<'_>,
     path: &[Text],
     pieces: &[Piece],
+    first: usize,
 ) -> Result<(), ElabFault>
     ensures { Answers (entering.select_fault (entry_at nets.now.module.now path.now) pieces.now) result }
 {
-    match nets.first_bad_select(pieces) {
+    match nets.first_bad_select(pieces, first) {
         None => Ok(()),
         Some(name) => Err(ElabFault::Select(printed_below(alloc, path, name)?)),
     }
 }
 
 /// Whether pieces are as wide as a port, or none.
-fn fits(nets: &NetTable<'_>, port: &Port, pieces: &[Piece]) -> bool
+fn fits(nets: &NetTable<'_>, port: &Port, pieces: &[Piece], first: usize) -> bool
     ensures { result ≡ judging.fits nets.now.module.now port.now pieces.now }
 {
     if pieces.is_empty() {
         return true;
     }
-    nets.width(pieces) == range_width(port.range) as u128
+    nets.width(pieces, first) == range_width(port.range) as u128
 }
 
 /// Refuses what is joined to a port, unless it is open or as wide as the port.
@@ -113,25 +125,31 @@ fn refuse_joined(
     path: &[Text],
     port: &Port,
     pieces: &[Piece],
+    first: usize,
 ) -> Result<(), ElabFault>
     ensures { Answers (judging.port_fault (entry_at nets.now.module.now path.now) port.now pieces.now) result }
 {
-    refuse_select(alloc, nets, path, pieces)?;
-    if fits(nets, port, pieces) {
+    refuse_select(alloc, nets, path, pieces, first)?;
+    if fits(nets, port, pieces, first) {
         return Ok(());
     }
     Err(ElabFault::Width(printed(alloc, port.name.as_slice())?))
 }
 
-/// The port of a name that no link before named; it is flagged.
-fn free_port<'h>(header: &'h Header<'_>, flags: &mut [bool], name: &[u8]) -> Option<&'h Port>
+/// The port of a name that no link before named; it is flagged. It may well be the port at the place `near`.
+fn free_port<'h>(
+    header: &'h Header<'_>,
+    flags: &mut [bool],
+    name: &[u8],
+    near: usize,
+) -> Option<&'h Port>
     requires { length flags.old ≡ length header.now.module.now.ports }
     ensures port { (linked : List (List ℕ)) → Flags header.now.module.now linked flags.old
         → option_map (λ p. p.now) result ≡ entering.free_port linked header.now.module.now.ports name.now }
     ensures flags { (linked : List (List ℕ)) → Flags header.now.module.now linked flags.old
         → IfSome result (λ p. Flags header.now.module.now (name.now ∷ linked) flags.new) }
 {
-    let place = header.find(name)?;
+    let place = header.find(name, near)?;
     if flags[place] {
         return None;
     }
@@ -149,7 +167,7 @@ fn port_in_place(ports: &[Port], k: usize) -> Option<&Port>
     Some(&ports[k])
 }
 
-/// Refuses a link of an instance, behind links to the flagged ports.
+/// Refuses a link of an instance, behind links to the flagged ports; its pieces are numbered from `first` on.
 fn refuse_link(
     alloc: Global,
     nets: &NetTable<'_>,
@@ -159,6 +177,7 @@ fn refuse_link(
     flags: &mut [bool],
     k: usize,
     link: &Link,
+    first: usize,
 ) -> Result<(), ElabFault>
     requires { length flags.old ≡ length header.now.module.now.ports }
     ensures answer { (linked : List (List ℕ)) → Flags header.now.module.now linked flags.old
@@ -169,27 +188,28 @@ fn refuse_link(
     match link {
         Link::Named(port, pieces) => {
             let name = port.as_slice();
-            match free_port(header, flags, name) {
+            match free_port(header, flags, name, k) {
                 None => Err(ElabFault::UnknownPort(printed(alloc, name)?)),
-                Some(port) => refuse_joined(alloc, nets, path, port, pieces.as_slice()),
+                Some(port) => refuse_joined(alloc, nets, path, port, pieces.as_slice(), first),
             }
         }
         Link::Placed(pieces) => {
             match port_in_place(header.module.ports.as_slice(), k) {
                 None => Err(ElabFault::UnknownPort(printed_below(alloc, path, instance)?)),
-                Some(port) => refuse_joined(alloc, nets, path, port, pieces.as_slice()),
+                Some(port) => refuse_joined(alloc, nets, path, port, pieces.as_slice(), first),
             }
         }
     }
 }
 
-/// Refuses the links of an instance, each in order.
+/// Refuses the links of an instance, which is the one of this number, each in order.
 fn refuse_links(
     alloc: Global,
     nets: &NetTable<'_>,
     path: &[Text],
     header: &Header<'_>,
     instance: &Instance,
+    number: usize,
 ) -> Result<(), ElabFault>
     ensures { Answers (entering.link_faults (entry_at nets.now.module.now path.now) header.now.module.now.ports instance.now.name [] 0 instance.now.links) result }
 {
@@ -206,6 +226,7 @@ fn refuse_links(
             flags.as_mut_slice(),
             k,
             link,
+            nets.piece(number, k),
         )?;
     }
     Ok(())
@@ -224,7 +245,8 @@ fn is_entered(modules: &[Module], entered: &[usize], name: &[u8]) -> bool
     false
 }
 
-/// Refuses an instance: its module, unless it is known, is not being entered and has no port of both directions; then its links.
+/// Refuses an instance, which is the one of this number: its module, unless it is known, is not being entered and has no port of both
+/// directions; then its links. Its module may well be the one at the place `near`.
 fn refuse_instance(
     alloc: Global,
     library: &Library<'_>,
@@ -232,34 +254,46 @@ fn refuse_instance(
     path: &[Text],
     entered: &[usize],
     instance: &Instance,
+    number: usize,
+    near: usize,
 ) -> Result<(), ElabFault>
     requires { All (λ n. n < length library.now.modules.now) entered.now }
     ensures { Answers (entering.instance_fault library.now.modules.now (entry_in library.now.modules.now nets.now.module.now path.now entered.now) instance.now) result }
 {
     let name = instance.module.as_slice();
-    let Some(header) = library.child(name) else {
+    let Some(header) = library.child(name, near) else {
         return Err(ElabFault::UnknownModule(printed(alloc, name)?));
     };
     if is_entered(library.modules, entered, name) {
         return Err(ElabFault::Recursive(printed(alloc, name)?));
     }
     refuse_inout(alloc, header.module)?;
-    refuse_links(alloc, nets, path, header, instance)
+    refuse_links(alloc, nets, path, header, instance, number)
 }
 
-/// Refuses the instances of a module, each in order.
+/// Refuses the instances of a module, which is the one of this number, each in order.
 fn refuse_instances(
     alloc: Global,
     library: &Library<'_>,
     nets: &NetTable<'_>,
     path: &[Text],
     entered: &[usize],
+    number: usize,
 ) -> Result<(), ElabFault>
     requires { All (λ n. n < length library.now.modules.now) entered.now }
     ensures { Answers (lists.first_some (entering.instance_fault library.now.modules.now (entry_in library.now.modules.now nets.now.module.now path.now entered.now)) nets.now.module.now.instances) result }
 {
-    for instance in nets.module.instances.as_slice() {
-        refuse_instance(alloc, library, nets, path, entered, instance)?;
+    for (k, instance) in nets.module.instances.as_slice().iter().enumerate() {
+        refuse_instance(
+            alloc,
+            library,
+            nets,
+            path,
+            entered,
+            instance,
+            k,
+            library.guess(number, k),
+        )?;
     }
     Ok(())
 }
@@ -273,15 +307,16 @@ fn refuse_selects(
 ) -> Result<(), ElabFault>
     ensures { Answers (entering.select_fault (entry_at nets.now.module.now path.now) (assign.now.left ++ assign.now.right)) result }
 {
-    refuse_select(alloc, nets, path, assign.left.as_slice())?;
-    refuse_select(alloc, nets, path, assign.right.as_slice())
+    refuse_select(alloc, nets, path, assign.left.as_slice(), usize::MAX)?;
+    refuse_select(alloc, nets, path, assign.right.as_slice(), usize::MAX)
 }
 
 /// Whether the sides of an assign are as wide as one another.
 fn are_equal(nets: &NetTable<'_>, assign: &Assign) -> bool
     ensures { result ≡ judging.are_equal nets.now.module.now assign.now }
 {
-    nets.width(assign.left.as_slice()) == nets.width(assign.right.as_slice())
+    nets.width(assign.left.as_slice(), usize::MAX)
+        == nets.width(assign.right.as_slice(), usize::MAX)
 }
 
 /// Refuses an assign between sides of different widths.
@@ -325,35 +360,35 @@ fn refuse_assigns(alloc: Global, nets: &NetTable<'_>, path: &[Text]) -> Result<(
     Ok(())
 }
 
-/// What an instance adds to the count: the bits of its module's ports, at least 1; 0 where the module isn't known.
+/// What an instance adds to the count: the bits of its module's ports, at least 1; 0 where the module isn't known. Its module may well be
+/// the one at the place `near`.
 #[inline]
-fn instance_count(library: &Library<'_>, instance: &Instance) -> usize
+fn instance_count(library: &Library<'_>, instance: &Instance, near: usize) -> usize
     ensures { result ≡ capped (entering.instance_count (module_called library.now.modules.now instance.now.module)) }
 {
-    match library.child(instance.module.as_slice()) {
+    match library.child(instance.module.as_slice(), near) {
         None => 0,
         Some(header) => header.bits.max(1),
     }
 }
 
-/// What instances add to the count.
-fn instances_count(library: &Library<'_>, instances: &[Instance]) -> usize
+/// What the instances of the module of a number add to the count.
+fn instances_count(library: &Library<'_>, instances: &[Instance], number: usize) -> usize
     ensures { result ≡ capped (sum_by (λ i. entering.instance_count (module_called library.now.modules.now i.module)) instances.now) }
 {
     let mut count: usize = 0;
-    for instance in instances {
-        count = count.saturating_add(instance_count(library, instance));
+    for (k, instance) in instances.iter().enumerate() {
+        count = count.saturating_add(instance_count(library, instance, library.guess(number, k)));
     }
     count
 }
 
 /// What a module adds to the count as it is entered, or `usize::MAX` where it adds more: the bits of its nets that are
 /// no ports, and those of its instances.
-pub fn entered_count(library: &Library<'_>, nets: &NetTable<'_>) -> usize
+fn entered_count(library: &Library<'_>, nets: &NetTable<'_>, number: usize) -> usize
     ensures { result ≡ capped (entering.entered_count library.now.modules.now nets.now.module.now) }
 {
-    nets.local
-        .saturating_add(instances_count(library, nets.module.instances.as_slice()))
+    nets.local.saturating_add(instances_count(library, nets.module.instances.as_slice(), number))
 }
 
 /// A module that is entered, with the count behind it.
@@ -385,11 +420,11 @@ pub fn enter<'m>(
     refuse_top_inout(alloc, module, path)?;
     refuse_name_twice(alloc, module, path)?;
     let nets = NetTable::new(alloc, module)?;
-    let count = count.saturating_add(entered_count(library, &nets));
+    let count = count.saturating_add(entered_count(library, &nets, number));
     if 4_194_304 < count {
         return Err(ElabFault::TooLarge(4_194_305));
     }
-    refuse_instances(alloc, library, &nets, path, entered)?;
+    refuse_instances(alloc, library, &nets, path, entered, number)?;
     refuse_assigns(alloc, &nets, path)?;
     Ok(Entered { nets, count })
 }

@@ -3,8 +3,10 @@
 
 mod faults;
 mod gathering;
+mod guesses;
 mod headers;
 mod judging;
+mod keys;
 mod libraries;
 mod names;
 mod nets;
@@ -16,7 +18,7 @@ mod widths;
 
 pub use faults::ElabFault;
 pub use headers::{Header, range_width};
-pub use judging::{Entered, enter, entered_count};
+pub use judging::{Entered, enter};
 pub use libraries::Library;
 pub use names::{printed, printed_below};
 pub use nets::{NetTable, Span};

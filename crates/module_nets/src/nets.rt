@@ -10,8 +10,10 @@ ghost use Rattle.module_nets.specs.Tables.{known};
 
 use crate::faults::ElabFault;
 use crate::gathering::{Gathered, NetPlace};
+use crate::guesses::Guesses;
 use crate::headers::{distance, range_width};
-use crate::tables::known;
+use crate::keys::Key;
+use crate::tables::known_near;
 use bud_syntax::{Module, Piece, Range};
 use indexmap::IndexMap;
 use std::alloc::Global;
@@ -27,12 +29,13 @@ pub struct Span {
 #[derive(Drop)]
 pub struct NetTable<'m> {
     pub module: &'m Module,
-    places: IndexMap<&'m [u8], NetPlace>,
+    places: IndexMap<Key<'m>, NetPlace>,
     names: Vec<&'m [u8]>,
     /// How many net bits the module has, or `usize::MAX` where it has more.
     pub bits: usize,
     /// How many of them are no bits of ports, or `usize::MAX` where they are more.
     pub local: usize,
+    guesses: Guesses,
     ghost apart: { IsNamedApart «module».now },
     ghost placed: { (q : List ℕ) → known places q ≡ place_among 0 (module_nets «module».now) q },
     ghost named: { map (λ n. n.now) names.items ≡ map (λ n. n.name) (module_nets «module».now) },
@@ -51,6 +54,14 @@ fn number_in(place: NetPlace, number: u32) -> usize
     }
 }
 
+/// How many nets the module may well have: its ports, and as many as it declares or as it has instances.
+fn likely_nets(module: &Module) -> usize {
+    module
+        .ports
+        .len()
+        .saturating_add(module.nets.len().max(module.instances.len()))
+}
+
 impl<'m> NetTable<'m> {
     /// The table of a module that declares no name twice.
     pub fn new(alloc: Global, module: &'m Module) -> Result<NetTable<'m>, ElabFault>
@@ -58,7 +69,7 @@ impl<'m> NetTable<'m> {
         ensures module { IfOk result (λ table. table.module.now ≡ «module».now) }
         ensures memory { IsMemory result }
     {
-        let mut nets = Gathered::new(alloc);
+        let mut nets = Gathered::new(alloc, likely_nets(module))?;
         nets.put_ports(module.ports.as_slice())?;
         nets.put_nets(module.nets.as_slice())?;
         nets.put_uses(module.instances.as_slice())?;
@@ -68,6 +79,7 @@ impl<'m> NetTable<'m> {
             names,
             bits,
             local,
+            guesses,
         } = nets;
         Ok(NetTable {
             module,
@@ -75,23 +87,38 @@ impl<'m> NetTable<'m> {
             names,
             bits,
             local,
+            guesses,
         })
     }
 
-    /// The range of a net; an undeclared net is a scalar.
-    pub fn range_of(&self, name: &[u8]) -> Option<Range>
-        ensures { result ≡ range_of self.now.module.now name.now }
-    {
-        known(&self.places, name)?.range
+    /// The number of the first piece of a link of an instance, by which its nets are found sooner.
+    #[inline]
+    pub fn piece(&self, instance: usize, link: usize) -> usize {
+        self.guesses.piece(instance, link)
     }
 
-    /// The numbers of all bits of a net.
-    pub fn net_span(&self, name: &[u8]) -> Option<Span>
+    /// Where a net's bits stand. Where the piece of this number is of that net, its name isn't looked up.
+    #[inline]
+    fn find(&self, name: &[u8], piece: usize) -> Option<NetPlace>
+        ensures { result ≡ place_among 0 (module_nets self.now.module.now) name.now }
+    {
+        known_near(&self.places, name, self.guesses.net(piece))
+    }
+
+    /// The range of a net, which the piece of this number may be of; an undeclared net is a scalar.
+    pub fn range_of(&self, name: &[u8], piece: usize) -> Option<Range>
+        ensures { result ≡ range_of self.now.module.now name.now }
+    {
+        self.find(name, piece)?.range
+    }
+
+    /// The numbers of all bits of a net, which the piece of this number may be of.
+    fn net_span(&self, name: &[u8], piece: usize) -> Option<Span>
         requires small { self.now.bits ≤ 8388608 }
         requires used { IsNetOf self.now.module.now name.now }
         ensures { IsNetSpan self.now.module.now name.now result }
     {
-        let place = known(&self.places, name)?;
+        let place = self.find(name, piece)?;
         let last = match place.range {
             None => place.first,
             Some(range) => number_in(place, range.right),
@@ -102,8 +129,9 @@ impl<'m> NetTable<'m> {
         })
     }
 
-    /// The numbers of the bits of a piece of the module, the leftmost first; None for a constant.
-    pub fn span(&self, piece: &Piece) -> Option<Span>
+    /// The numbers of the bits of a piece of the module, the leftmost first; None for a constant. Its own number, where it is known, spares
+    /// the look-up of its net's name.
+    pub fn span(&self, piece: &Piece, number: usize) -> Option<Span>
         requires small { self.now.bits ≤ 8388608 }
         requires used { IsOfNet self.now.module.now (piece_net piece.now) }
         requires select { bad_select self.now.module.now piece.now ≡ None }
@@ -111,13 +139,13 @@ impl<'m> NetTable<'m> {
     {
         match piece {
             Piece::Const(_) => None,
-            Piece::Net(name) => self.net_span(name.as_slice()),
-            Piece::Bit(name, number) => {
-                let first = number_in(known(&self.places, name.as_slice())?, *number);
+            Piece::Net(name) => self.net_span(name.as_slice(), number),
+            Piece::Bit(name, bit) => {
+                let first = number_in(self.find(name.as_slice(), number)?, *bit);
                 Some(Span { first, last: first })
             }
             Piece::Part(name, left, right) => {
-                let place = known(&self.places, name.as_slice())?;
+                let place = self.find(name.as_slice(), number)?;
                 Some(Span {
                     first: number_in(place, *left),
                     last: number_in(place, *right),
@@ -133,7 +161,7 @@ impl<'m> NetTable<'m> {
     {
         let mut before: usize = 0;
         for name in self.names.as_slice() {
-            let range = self.range_of(name);
+            let range = self.range_of(name, usize::MAX);
             let width = range_width(range);
             if number - before < width {
                 return Some((*name, bit_in(range, number - before)));

@@ -1,10 +1,11 @@
-ghost use Rattle.std.specs.Prelude.{◌≡◌, ◌||◌, ℕ, List, map, Some, None, not, OnOk, IfOk, if◌then◌else◌};
+ghost use Rattle.std.specs.Prelude.{◌≡◌, is_some, ◌||◌, ℕ, List, map, Some, None, not, OnOk, IfOk, if◌then◌else◌};
 ghost use Rattle.std.specs.Option.{option_or, option_map};
 ghost use Rattle.std.specs.Str.{bytes_eq};
 ghost use Rattle.module_nets.specs.Refusals.{IsMemory};
 ghost use Rattle.module_nets.specs.Tables.{known, holds, IsNumbered, HasNames, IsAgain};
 
 use crate::faults::ElabFault;
+use crate::keys::{Key, are_same};
 use bud_syntax::{Instance, Module, NetDecl, Port};
 use indexmap::{IndexMap, IndexSet};
 use std::alloc::Global;
@@ -50,23 +51,44 @@ impl Declared for Module {
 }
 
 /// The first place of each name in a list.
-pub type Places<'m> = IndexMap<&'m [u8], usize>;
+pub type Places<'m> = IndexMap<Key<'m>, usize>;
 
 /// Names, each once.
-pub type Names<'m> = IndexSet<&'m [u8]>;
+pub type Names<'m> = IndexSet<Key<'m>>;
 
 /// What the table has at a name.
 #[inline]
-pub fn known<V: Copy>(table: &IndexMap<&[u8], V>, name: &[u8]) -> Option<V>
+pub fn known<V: Copy>(table: &IndexMap<Key<'_>, V>, name: &[u8]) -> Option<V>
     ensures { result ≡ known table.now name.now }
 {
-    table.get(name).copied()
+    table.get(&Key { name }).copied()
+}
+
+/// What the table has at a name, which may well be its entry of this number.
+#[inline]
+pub fn known_near<V: Copy>(table: &IndexMap<Key<'_>, V>, name: &[u8], near: usize) -> Option<V>
+    ensures { result ≡ known table.now name.now }
+{
+    if let Some((key, value)) = table.get_index(near) {
+        if are_same(name, key.name) {
+            return Some(*value);
+        }
+    }
+    known(table, name)
+}
+
+/// The number of a name's entry in the table.
+#[inline]
+pub fn number_of<V: Copy>(table: &IndexMap<Key<'_>, V>, name: &[u8]) -> Option<usize>
+    ensures { is_some result ≡ is_some (known table.now name.now) }
+{
+    table.get_index_of(&Key { name })
 }
 
 /// Puts the value at a name that the table doesn't have.
 #[inline]
 pub fn enter<'m, V: Copy + Drop>(
-    table: &mut IndexMap<&'m [u8], V>,
+    table: &mut IndexMap<Key<'m>, V>,
     name: &'m [u8],
     value: V,
 ) -> Result<(), ElabFault>
@@ -76,7 +98,21 @@ pub fn enter<'m, V: Copy + Drop>(
     if known(table, name).is_some() {
         return Ok(());
     }
-    match table.insert(name, value) {
+    enter_new(table, name, value)
+}
+
+/// Puts the value at a name that the table is known not to have.
+#[inline]
+pub fn enter_new<'m, V: Copy + Drop>(
+    table: &mut IndexMap<Key<'m>, V>,
+    name: &'m [u8],
+    value: V,
+) -> Result<(), ElabFault>
+    requires { known table.old name.now ≡ None }
+    ensures entered { OnOk result ((q : List ℕ) → known table.new q ≡ option_or (known table.old q) (if bytes_eq name.now q then Some value else None)) }
+    ensures memory { IsMemory result }
+{
+    match table.insert(Key { name }, value) {
         Ok(_) => Ok(()),
         Err(_) => Err(ElabFault::NoMemory),
     }
@@ -99,7 +135,7 @@ pub fn numbered<'m, T: Declared>(alloc: Global, items: &'m [T]) -> Result<Places
 pub fn holds(names: &Names<'_>, name: &[u8]) -> bool
     ensures { result ≡ holds names.now name.now }
 {
-    names.contains(name)
+    names.contains(&Key { name })
 }
 
 /// Puts a name into the set, and says whether it wasn't there.
@@ -109,7 +145,7 @@ pub fn note<'m>(names: &mut Names<'m>, name: &'m [u8]) -> Result<bool, ElabFault
     ensures noted { OnOk result ((q : List ℕ) → holds names.new q ≡ (bytes_eq q name.now || holds names.old q)) }
     ensures memory { IsMemory result }
 {
-    match names.insert_full(name) {
+    match names.insert_full(Key { name }) {
         Ok((_, fresh)) => Ok(fresh),
         Err(_) => Err(ElabFault::NoMemory),
     }

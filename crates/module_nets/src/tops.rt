@@ -34,7 +34,7 @@ fn meant(library: &Library<'_>, name: &[u8]) -> Option<usize>
     ensures within { IfSome result (λ k. k < length library.now.modules.now) }
 {
     match printed_number(library.modules, name) {
-        None => library.find(name),
+        None => library.find(name, 0),
         Some(number) => Some(number),
     }
 }

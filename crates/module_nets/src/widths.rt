@@ -48,14 +48,14 @@ pub fn first_net(pieces: &[Piece]) -> Option<&[u8]>
 }
 
 impl NetTable<'_> {
-    /// The net of a piece that selects a bit outside its range.
-    pub fn bad_select<'p>(&self, piece: &'p Piece) -> Option<&'p [u8]>
+    /// The net of a piece, of this number, that selects a bit outside its range.
+    fn bad_select<'p>(&self, piece: &'p Piece, number: usize) -> Option<&'p [u8]>
         ensures { option_map (λ name. name.now) result ≡ bad_select self.now.module.now piece.now }
     {
         match piece {
-            Piece::Bit(name, number) => {
+            Piece::Bit(name, bit) => {
                 let name = name.as_slice();
-                if is_outside(self.range_of(name), *number) {
+                if is_outside(self.range_of(name, number), *bit) {
                     Some(name)
                 } else {
                     None
@@ -63,7 +63,7 @@ impl NetTable<'_> {
             }
             Piece::Part(name, left, right) => {
                 let name = name.as_slice();
-                let range = self.range_of(name);
+                let range = self.range_of(name, number);
                 if is_outside(range, *left) || is_outside(range, *right) {
                     Some(name)
                 } else {
@@ -74,12 +74,12 @@ impl NetTable<'_> {
         }
     }
 
-    /// The net of the first piece that selects a bit outside its range.
-    pub fn first_bad_select<'p>(&self, pieces: &'p [Piece]) -> Option<&'p [u8]>
+    /// The net of the first piece that selects a bit outside its range, the pieces being numbered from `first` on.
+    pub fn first_bad_select<'p>(&self, pieces: &'p [Piece], first: usize) -> Option<&'p [u8]>
         ensures { option_map (λ name. name.now) result ≡ first_some (bad_select self.now.module.now) pieces.now }
     {
-        for piece in pieces {
-            let name = self.bad_select(piece);
+        for (k, piece) in pieces.iter().enumerate() {
+            let name = self.bad_select(piece, first.saturating_add(k));
             if name.is_some() {
                 return name;
             }
@@ -87,13 +87,13 @@ impl NetTable<'_> {
         None
     }
 
-    /// How many bits a piece has.
-    pub fn piece_width(&self, piece: &Piece) -> usize
+    /// How many bits a piece, of this number, has.
+    fn piece_width(&self, piece: &Piece, number: usize) -> usize
         ensures width { result ≡ length (piece_bits self.now.module.now piece.now) }
         ensures most { result ≤ 4294967296 }
     {
         match piece {
-            Piece::Net(name) => range_width(self.range_of(name.as_slice())),
+            Piece::Net(name) => range_width(self.range_of(name.as_slice(), number)),
             Piece::Bit(_, _) => 1,
             Piece::Part(_, left, right) => range_width(Some(Range {
                 left: *left,
@@ -103,13 +103,13 @@ impl NetTable<'_> {
         }
     }
 
-    /// How many bits an expression has.
-    pub fn width(&self, pieces: &[Piece]) -> u128
+    /// How many bits an expression has, its pieces being numbered from `first` on.
+    pub fn width(&self, pieces: &[Piece], first: usize) -> u128
         ensures { result ≡ length (expression_bits self.now.module.now pieces.now) }
     {
         let mut width: u128 = 0;
-        for piece in pieces {
-            width += self.piece_width(piece) as u128;
+        for (k, piece) in pieces.iter().enumerate() {
+            width += self.piece_width(piece, first.saturating_add(k)) as u128;
         }
         width
     }

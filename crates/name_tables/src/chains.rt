@@ -48,10 +48,12 @@ impl Chains {
         ensures next { OnOk result (self.new.next ≡ slice_set self.old.next number (first_of self.old key)) }
         ensures first { OnOk result ((q : ℕ) → lookup (λ k. q == k) self.new.first ≡ (if key == q then Some number else lookup (λ k. q == k) self.old.first)) }
     {
-        let next = self.first(key);
-        self.next[number as usize] = next;
         match self.first.insert(key, number) {
-            Ok(_) => Ok(()),
+            Ok(before) => {
+                let next = before.unwrap_or(self.next.len() as u32);
+                self.next[number as usize] = next;
+                Ok(())
+            }
             Err(_) => Err(AllocError),
         }
     }

@@ -62,9 +62,9 @@ fn drive_assign(
     ensures { OnOk result (IsFilled (all_bits table.now.module.now) (assign_drives table.now.module.now assign.now) slots.old slots.new) }
 {
     let mut lefts = Vec::new(alloc);
-    put_pieces(table, assign.left.as_slice(), &mut lefts)?;
+    put_pieces(table, assign.left.as_slice(), usize::MAX, &mut lefts)?;
     let mut rights = Vec::new(alloc);
-    put_pieces(table, assign.right.as_slice(), &mut rights)?;
+    put_pieces(table, assign.right.as_slice(), usize::MAX, &mut rights)?;
     put_assigned(slots, lefts.as_slice(), rights.as_slice());
     Ok(())
 }
@@ -94,7 +94,7 @@ fn cover_piece(table: &NetTable<'_>, piece: &Piece, rows: &mut [Ends])
     requires rows { length rows.old ≡ length (all_bits table.now.module.now) }
     ensures { Stands (all_bits table.now.module.now) (piece_bits table.now.module.now piece.now) rows.old rows.new }
 {
-    if let Some(span) = table.span(piece) {
+    if let Some(span) = table.span(piece, usize::MAX) {
         let low = span.first.min(span.last);
         let high = span.first.max(span.last);
         cover(rows, low as u32, (high + 1) as u32);

@@ -23,15 +23,15 @@ fn put_direction(into: &mut Vec<Dir>, dir: Dir, count: usize) -> Result<(), Allo
     Ok(())
 }
 
-/// The directions of ports, bit by bit.
-fn directions(alloc: Global, ports: &[Port]) -> Result<Vec<Dir>, AllocError>
-    ensures { IfOk result (λ dirs. dirs.items ≡ directions ports.now) }
+/// Makes the list that of the directions of ports, bit by bit.
+fn fill_directions(dirs: &mut Vec<Dir>, ports: &[Port]) -> Result<(), AllocError>
+    ensures { OnOk result (dirs.new.items ≡ directions ports.now) }
 {
-    let mut dirs = Vec::new(alloc);
+    dirs.clear();
     for port in ports {
-        put_direction(&mut dirs, port.dir, range_width(port.range))?;
+        put_direction(dirs, port.dir, range_width(port.range))?;
     }
-    Ok(dirs)
+    Ok(())
 }
 
 /// The port bits of a module, joined to its first net bits.
@@ -39,7 +39,8 @@ pub fn own_joints(alloc: Global, ports: &[Port]) -> Result<Vec<Joint>, AllocErro
     requires { length (directions ports.now) < 2 ^ 32 }
     ensures { IfOk result (λ own. own.items ≡ own_joints 0 (directions ports.now)) }
 {
-    let dirs = directions(alloc, ports)?;
+    let mut dirs = Vec::new(alloc);
+    fill_directions(&mut dirs, ports)?;
     number_joints(alloc, dirs.as_slice())
 }
 
@@ -66,7 +67,7 @@ fn pair_joints(
 ) -> Result<Vec<Joint>, AllocError>
     ensures { IfOk result (λ pairs. pairs.items ≡ joints dirs.now numbers.now) }
 {
-    let mut pairs = Vec::new(alloc);
+    let mut pairs = Vec::with_capacity(alloc, dirs.len())?;
     for k in 0..dirs.len().min(numbers.len()) {
         pairs.push(Joint {
             dir: dirs[k],
@@ -76,13 +77,14 @@ fn pair_joints(
     Ok(pairs)
 }
 
-/// Appends the numbers of the net bits that links join to ports.
+/// Appends the numbers of the net bits that the links of the instance of a number join to ports.
 fn put_ports(
     table: &NetTable<'_>,
     header: &Header<'_>,
     ports: &[Port],
     links: &[Link],
     joining: &Joining,
+    instance: usize,
     into: &mut Vec<Option<u32>>,
 ) -> Result<(), AllocError>
     requires small { table.now.bits ≤ 8388608 }
@@ -93,60 +95,93 @@ fn put_ports(
 {
     for (place, port) in ports.iter().enumerate() {
         let number = link_of(header, links, joining, place, port);
-        put_link(table, port, links, number, into)?;
+        put_link(table, port, links, number, instance, into)?;
     }
     Ok(())
 }
 
-/// The numbers of the net bits at the port bits of an instance.
-fn joined_numbers(
-    alloc: Global,
+/// Makes the list that of the numbers of the net bits at the port bits of an instance, which may be the one of this number.
+fn join_numbers(
     table: &NetTable<'_>,
     header: &Header<'_>,
     instance: &Instance,
-) -> Result<Vec<Option<u32>>, AllocError>
+    number: usize,
+    joining: &mut Joining,
+    numbers: &mut Vec<Option<u32>>,
+) -> Result<(), AllocError>
     requires small { table.now.bits ≤ 8388608 }
     requires fine { All (λ l. All (IsFine table.now.module.now) (pieces_of_link l)) instance.now.links }
-    ensures { IfOk result (λ numbers. AreNumbers table.now.module.now (joined_bits table.now.module.now header.now.module.now instance.now) numbers.items) }
+    ensures { OnOk result (AreNumbers table.now.module.now (joined_bits table.now.module.now header.now.module.now instance.now) numbers.new.items) }
 {
     let links = instance.links.as_slice();
     let ports = header.module.ports.as_slice();
-    let joining = Joining::new(alloc, header, links)?;
-    let mut numbers = Vec::new(alloc);
-    put_ports(table, header, ports, links, &joining, &mut numbers)?;
-    Ok(numbers)
+    joining.fill(header, links)?;
+    numbers.clear();
+    put_ports(table, header, ports, links, joining, number, numbers)?;
+    Ok(())
 }
 
-/// The port bits of an instance of a known module.
+/// Lists that are filled anew for each instance.
+#[derive(Drop)]
+struct Scratch {
+    dirs: Vec<Dir>,
+    numbers: Vec<Option<u32>>,
+    joining: Joining,
+}
+
+impl Scratch {
+    fn new(alloc: Global) -> Scratch {
+        Scratch {
+            dirs: Vec::new(alloc),
+            numbers: Vec::new(alloc),
+            joining: Joining::new(alloc),
+        }
+    }
+}
+
+/// The port bits of an instance of a known module, which may be the one of this number.
 fn child_joints(
     alloc: Global,
     table: &NetTable<'_>,
     header: &Header<'_>,
     instance: &Instance,
+    number: usize,
+    scratch: &mut Scratch,
 ) -> Result<Vec<Joint>, AllocError>
     requires small { table.now.bits ≤ 8388608 }
     requires fine { All (λ l. All (IsFine table.now.module.now) (pieces_of_link l)) instance.now.links }
     ensures { IfOk result (λ pairs. IsJoined table.now.module.now instance.now (Some header.now.module.now) pairs.items) }
 {
-    let dirs = directions(alloc, header.module.ports.as_slice())?;
-    let numbers = joined_numbers(alloc, table, header, instance)?;
-    let pairs = pair_joints(alloc, dirs.as_slice(), numbers.as_slice())?;
+    fill_directions(&mut scratch.dirs, header.module.ports.as_slice())?;
+    join_numbers(
+        table,
+        header,
+        instance,
+        number,
+        &mut scratch.joining,
+        &mut scratch.numbers,
+    )?;
+    let pairs = pair_joints(alloc, scratch.dirs.as_slice(), scratch.numbers.as_slice())?;
     Ok(pairs)
 }
 
-/// The port bits of an instance, none where its module isn't in the netlist.
+/// The port bits of an instance, none where its module isn't in the netlist. It may be the one of this number, and its module the one at
+/// the place `near`.
 fn instance_joints(
     alloc: Global,
     library: &Library<'_>,
     table: &NetTable<'_>,
     instance: &Instance,
+    number: usize,
+    near: usize,
+    scratch: &mut Scratch,
 ) -> Result<Vec<Joint>, AllocError>
     requires small { table.now.bits ≤ 8388608 }
     requires fine { All (λ l. All (IsFine table.now.module.now) (pieces_of_link l)) instance.now.links }
     ensures { IfOk result (λ pairs. IsJoined table.now.module.now instance.now (module_called library.now.modules.now instance.now.«module») pairs.items) }
 {
-    match library.child(instance.module.as_slice()) {
-        Some(header) => child_joints(alloc, table, header, instance),
+    match library.child(instance.module.as_slice(), near) {
+        Some(header) => child_joints(alloc, table, header, instance, number, scratch),
         None => Ok(Vec::new(alloc)),
     }
 }
@@ -154,20 +189,23 @@ fn instance_joints(
 /// The port bits of an instance.
 pub type Joints = Listed<Joint>;
 
-/// The port bits of each instance of a list.
+/// The port bits of each instance of a list, which may be that of the module of this number.
 fn all_joints(
     alloc: Global,
     library: &Library<'_>,
     table: &NetTable<'_>,
     instances: &[Instance],
+    number: usize,
 ) -> Result<Vec<Joints>, AllocError>
     requires small { table.now.bits ≤ 8388608 }
     requires fine { All (λ i. All (λ l. All (IsFine table.now.module.now) (pieces_of_link l)) i.links) instances.now }
     ensures { IfOk result (λ each. AreJoined library.now.modules.now table.now.module.now instances.now (length instances.now) each.items) }
 {
+    let mut scratch = Scratch::new(alloc);
     let mut each = Vec::with_capacity(alloc, instances.len())?;
-    for instance in instances {
-        let pairs = instance_joints(alloc, library, table, instance)?;
+    for (k, instance) in instances.iter().enumerate() {
+        let near = library.guess(number, k);
+        let pairs = instance_joints(alloc, library, table, instance, k, near, &mut scratch)?;
         each.push(Joints::from_vec(pairs))?;
     }
     Ok(each)
@@ -182,11 +220,12 @@ pub struct InstanceJoints<'j, 'm> {
 }
 
 impl<'j, 'm> InstanceJoints<'j, 'm> {
-    /// Joins the ports of each instance of a module, once.
+    /// Joins the ports of each instance of a module, once. It may be the module of this number.
     pub fn new(
         alloc: Global,
         library: &'j Library<'m>,
         table: &'j NetTable<'m>,
+        number: usize,
     ) -> Result<InstanceJoints<'j, 'm>, AllocError>
         requires small { table.now.bits ≤ 8388608 }
         requires fine { All (λ i. All (λ l. All (IsFine table.now.module.now) (pieces_of_link l)) i.links) table.now.module.now.instances }
@@ -195,7 +234,7 @@ impl<'j, 'm> InstanceJoints<'j, 'm> {
         ensures joined { IfOk result (λ joints. AreJoinedIn library.now.modules.now table.now.module.now joints.each.items) }
     {
         let instances = table.module.instances.as_slice();
-        let each = all_joints(alloc, library, table, instances)?;
+        let each = all_joints(alloc, library, table, instances, number)?;
         Ok(InstanceJoints {
             library,
             table,

@@ -1,4 +1,4 @@
-ghost use Rattle.std.specs.Prelude.{◌≡◌, ◌<◌, ℕ, length, map, None, IfOk, slice_index_or};
+ghost use Rattle.std.specs.Prelude.{◌≡◌, ◌<◌, ℕ, length, map, replicate, None, OnOk, slice_index_or};
 ghost use Rattle.std.specs.List.{position_from};
 ghost use Rattle.std.specs.Option.{option_map};
 ghost use Rattle.module_nets.specs.Headers.{port_called};
@@ -20,12 +20,12 @@ pub fn pieces_of(link: &Link) -> &[Piece]
     }
 }
 
-/// The place of the first port of the name that the link gives.
-fn place_named(header: &Header<'_>, link: &Link) -> Option<usize>
+/// The place of the first port of the name that the link gives; it may well be the one at the place `near`.
+fn place_named(header: &Header<'_>, link: &Link, near: usize) -> Option<usize>
     ensures { result ≡ place_named header.now.module.now link.now }
 {
     match link {
-        Link::Named(port, _) => header.find(port.as_slice()),
+        Link::Named(port, _) => header.find(port.as_slice(), near),
         Link::Placed(_) => None,
     }
 }
@@ -42,33 +42,42 @@ fn note(places: &mut Vec<Option<usize>>, place: Option<usize>, number: usize)
     }
 }
 
-/// For each port, the first link that names it, the port being the first of its name.
-fn named_links(
-    alloc: Global,
-    header: &Header<'_>,
-    links: &[Link],
-) -> Result<Vec<Option<usize>>, AllocError>
-    ensures { IfOk result (λ named. AreNamedLinks header.now.module.now links.now named.items) }
+/// Makes the list one of so many numbers, of which there is none.
+fn clear_to(named: &mut Vec<Option<usize>>, count: usize) -> Result<(), AllocError>
+    ensures { OnOk result (named.new.items ≡ replicate count None) }
 {
-    let mut named = vec![in alloc; None; header.module.ports.len()]?;
-    for (number, link) in links.iter().enumerate() {
-        let place = place_named(header, link);
-        note(&mut named, place, number);
-    }
-    Ok(named)
+    named.clear();
+    named.resize(count, None)?;
+    Ok(())
 }
 
-/// The links that name no port.
-fn placed_links(alloc: Global, links: &[Link]) -> Result<Vec<usize>, AllocError>
-    ensures { IfOk result (λ placed. placed.items ≡ placed_from 0 links.now) }
+/// Makes the list that of the first link that names each port, the port being the first of its name.
+fn name_links(
+    named: &mut Vec<Option<usize>>,
+    header: &Header<'_>,
+    links: &[Link],
+) -> Result<(), AllocError>
+    ensures { OnOk result (AreNamedLinks header.now.module.now links.now named.new.items) }
 {
-    let mut placed = Vec::new(alloc);
+    clear_to(named, header.module.ports.len())?;
+    for (number, link) in links.iter().enumerate() {
+        let place = place_named(header, link, number);
+        note(named, place, number);
+    }
+    Ok(())
+}
+
+/// Makes the list that of the links that name no port.
+fn place_links(placed: &mut Vec<usize>, links: &[Link]) -> Result<(), AllocError>
+    ensures { OnOk result (placed.new.items ≡ placed_from 0 links.now) }
+{
+    placed.clear();
     for (number, link) in links.iter().enumerate() {
         if let Link::Placed(_) = link {
             placed.push(number)?;
         }
     }
-    Ok(placed)
+    Ok(())
 }
 
 /// Which links join the ports of an instance: the first that names each port, and those that name none.
@@ -79,12 +88,21 @@ pub struct Joining {
 }
 
 impl Joining {
-    pub fn new(alloc: Global, header: &Header<'_>, links: &[Link]) -> Result<Joining, AllocError>
-        ensures { IfOk result (λ joining. IsJoining header.now.module.now links.now joining.named.items joining.placed.items) }
+    /// No links yet.
+    pub fn new(alloc: Global) -> Joining {
+        Joining {
+            named: Vec::new(alloc),
+            placed: Vec::new(alloc),
+        }
+    }
+
+    /// Makes it say which of these links join ports.
+    pub fn fill(&mut self, header: &Header<'_>, links: &[Link]) -> Result<(), AllocError>
+        ensures { OnOk result (IsJoining header.now.module.now links.now self.new.named.items self.new.placed.items) }
     {
-        let named = named_links(alloc, header, links)?;
-        let placed = placed_links(alloc, links)?;
-        Ok(Joining { named, placed })
+        name_links(&mut self.named, header, links)?;
+        place_links(&mut self.placed, links)?;
+        Ok(())
     }
 }
 
@@ -123,7 +141,7 @@ fn first_link(
     requires joining { IsJoining header.now.module.now links.now joining.now.named.items joining.now.placed.items }
     ensures { result ≡ position_from (names port.now.name) 0 links.now }
 {
-    match header.find(port.name.as_slice()) {
+    match header.find(port.name.as_slice(), place) {
         Some(first) => joining.named[first],
         None => None,
     }

@@ -71,43 +71,46 @@ fn constant_width(piece: &Piece) -> usize
     }
 }
 
-/// Appends the numbers of the bits of a piece.
+/// Appends the numbers of the bits of a piece, which may be the one of this number.
 fn put_piece(
     table: &NetTable<'_>,
     piece: &Piece,
+    number: usize,
     into: &mut Vec<Option<u32>>,
 ) -> Result<(), AllocError>
     requires small { table.now.bits ≤ 8388608 }
     requires fine { IsFine table.now.module.now piece.now }
     ensures { OnOk result (Appends table.now.module.now (piece_bits table.now.module.now piece.now) into.old.items into.new.items) }
 {
-    match table.span(piece) {
+    match table.span(piece, number) {
         Some(span) => put_span(into, span),
         None => put_none(into, constant_width(piece)),
     }
 }
 
-/// Appends the numbers of the bits of an expression.
+/// Appends the numbers of the bits of an expression, its pieces being numbered from `first` on.
 pub fn put_pieces(
     table: &NetTable<'_>,
     pieces: &[Piece],
+    first: usize,
     into: &mut Vec<Option<u32>>,
 ) -> Result<(), AllocError>
     requires small { table.now.bits ≤ 8388608 }
     requires fine { All (IsFine table.now.module.now) pieces.now }
     ensures { OnOk result (Appends table.now.module.now (expression_bits table.now.module.now pieces.now) into.old.items into.new.items) }
 {
-    for piece in pieces {
-        put_piece(table, piece, into)?;
+    for (k, piece) in pieces.iter().enumerate() {
+        put_piece(table, piece, first.saturating_add(k), into)?;
     }
     Ok(())
 }
 
-/// Appends the numbers of the bits that are joined to a port.
+/// Appends the numbers of the bits that are joined to a port, the pieces being numbered from `first` on.
 pub fn put_port(
     table: &NetTable<'_>,
     port: &Port,
     pieces: &[Piece],
+    first: usize,
     into: &mut Vec<Option<u32>>,
 ) -> Result<(), AllocError>
     requires small { table.now.bits ≤ 8388608 }
@@ -115,19 +118,20 @@ pub fn put_port(
     ensures { OnOk result (Appends table.now.module.now (or_open port.now.range (expression_bits table.now.module.now pieces.now)) into.old.items into.new.items) }
 {
     let before = into.len();
-    put_pieces(table, pieces, into)?;
+    put_pieces(table, pieces, first, into)?;
     if into.len() != before {
         return Ok(());
     }
     put_none(into, range_width(port.range))
 }
 
-/// Appends the numbers of the bits that the link of a number joins to a port.
+/// Appends the numbers of the bits that the link of a number joins to a port, at the instance of a number.
 pub fn put_link(
     table: &NetTable<'_>,
     port: &Port,
     links: &[Link],
     number: Option<usize>,
+    instance: usize,
     into: &mut Vec<Option<u32>>,
 ) -> Result<(), AllocError>
     requires small { table.now.bits ≤ 8388608 }
@@ -137,6 +141,9 @@ pub fn put_link(
 {
     match number {
         None => put_none(into, range_width(port.range)),
-        Some(number) => put_port(table, port, pieces_of(&links[number]), into),
+        Some(number) => {
+            let first = table.piece(instance, number);
+            put_port(table, port, pieces_of(&links[number]), first, into)
+        }
     }
 }

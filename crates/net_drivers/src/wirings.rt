@@ -168,16 +168,18 @@ fn wire(
 /// The wires of a module that isn't refused, from the driver of each net bit to what hangs on it, or the number of the
 /// first net bit that more than one thing drives.
 ///
-/// It takes time linear in the text of the module, its net bits and the port bits of its instances.
+/// It takes time linear in the text of the module, its net bits and the port bits of its instances. `number` is the module's in the
+/// library; the answer is the same with another one, though it takes longer.
 pub fn wire_module(
     alloc: Global,
     library: &Library<'_>,
     table: &NetTable<'_>,
+    number: usize,
 ) -> Result<Wiring, AllocError>
     requires clean { IsClean library.now.modules.now table.now.module.now }
     ensures { IfOk result (IsWiring library.now.modules.now table.now.module.now) }
 {
-    let joints = InstanceJoints::new(alloc, library, table)?;
+    let joints = InstanceJoints::new(alloc, library, table, number)?;
     let own = own_joints(alloc, table.module.ports.as_slice())?;
     let mut slots = vec![in alloc; Slot::Free; table.bits]?;
     let wired = wire(alloc, &joints, own.as_slice(), slots.as_mut_slice())?;

@@ -3,9 +3,9 @@ use Rattle.module_nets.specs.Tops.{module_at}
 use Rattle.hierarchy.specs.Walking.{built_of, SameTrail, IsWalk, steps}
 use Rattle.hierarchy.proofs.walks.+walk.Given as goal
 
-abbrev pub invariant-put_inside-loop-instance : goal.invariant-put_inside-loop-instance
-invariant-put_inside-loop-instance l = record {
-  rest : steps l.library.modules.now l.levels l.kind l.initial.walk.trail l.here (drop l.instance-index (module_at l.library.modules.now l.kind).instances) (built_of l.walk)
+abbrev pub invariant-put_inside-loop-k : goal.invariant-put_inside-loop-k
+invariant-put_inside-loop-k l = record {
+  rest : steps l.library.modules.now l.levels l.kind l.initial.walk.trail l.here (drop l.k (module_at l.library.modules.now l.kind).instances) (built_of l.walk)
       ≡ steps l.library.modules.now l.levels l.kind l.initial.walk.trail l.here (module_at l.library.modules.now l.kind).instances (built_of l.initial.walk);
   trail : SameTrail l.initial.walk.trail l.walk.trail;
   walk : IsWalk l.library.modules.now l.walk;

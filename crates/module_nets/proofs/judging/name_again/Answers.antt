@@ -5,6 +5,7 @@ use Rattle.std.specs.Option.{option_map}
 use Rattle.std.specs.Str.{bytes_eq}
 use Rattle.bud_design.specs.Lists.{first_again}
 use Rattle.module_nets.specs.Tables.{seen_behind}
+use Rattle.module_nets.specs.declared.keys.Key.{Key}
 use Rattle.module_nets.proofs.JudgeSteps.{found_first, found_later, names_are, is_some-map, map-none, if_ok}
 use Rattle.module_nets.proofs.judging.name_again.Goals as goal
 
@@ -15,7 +16,7 @@ pub returns-then-is_some-clause-again : goal.returns-then-is_some-clause-again
 returns-then-is_some-clause-again c =
     let m = c.args.«module».now in
     let ps = map (λ p. p.name) c.as_slice.result.now in
-    let first = c.in_ok-again.ensures.again [] (λ q. ap (λ ks. list_any (λ (k : Bor (List ℕ)). bytes_eq q k.now) ks) c.new-names.ensures.empty) in
+    let first = c.in_ok-again.ensures.again [] (λ q. ap (λ ks. list_any (λ (k : Key). bytes_eq q k.name.now) ks) c.in-Ok.ensures.empty) in
     found_first [] ps (map (λ n. n.name) m.nets ++ map (λ i. i.name) m.instances) (option_map (λ n. n.now) c.in_ok-again.again) first.first
     (is_some-map (λ (n : Bor (List ℕ)). n.now) c.in_ok-again.again ∙ (sym c.is_some.ensures ∙ c.if-is_some.true))
     ∙ ap (first_again []) (names_are m c.as_slice.result.now m.nets m.instances c.as_slice.ensures refl refl)
@@ -25,7 +26,7 @@ returns-then-is_some-2-clause-again c =
     let m = c.args.«module».now in
     let ps = map (λ p. p.name) c.as_slice.result.now in
     let ns = map (λ n. n.name) c.as_slice-2.result.now in
-    let first = c.in_ok-again.ensures.again [] (λ q. ap (λ ks. list_any (λ (k : Bor (List ℕ)). bytes_eq q k.now) ks) c.new-names.ensures.empty) in
+    let first = c.in_ok-again.ensures.again [] (λ q. ap (λ ks. list_any (λ (k : Key). bytes_eq q k.name.now) ks) c.in-Ok.ensures.empty) in
     let none = map-none (λ (n : Bor (List ℕ)). n.now) c.in_ok-again.again (sym c.is_some.ensures ∙ c.if-is_some.false) in
     let second = c.in_ok-again-2.ensures.again (seen_behind [] ps) (first.noted none) in
     found_later [] ps (ns ++ map (λ i. i.name) m.instances) (option_map (λ n. n.now) c.in_ok-again-2.again) (sym none ∙ first.first)
@@ -39,7 +40,7 @@ returns-clause-again c =
     let ps = map (λ p. p.name) c.as_slice.result.now in
     let ns = map (λ n. n.name) c.as_slice-2.result.now in
     let is = map (λ i. i.name) c.as_slice-3.result.now in
-    let first = c.in_ok-again.ensures.again [] (λ q. ap (λ ks. list_any (λ (k : Bor (List ℕ)). bytes_eq q k.now) ks) c.new-names.ensures.empty) in
+    let first = c.in_ok-again.ensures.again [] (λ q. ap (λ ks. list_any (λ (k : Key). bytes_eq q k.name.now) ks) c.in-Ok.ensures.empty) in
     let none = map-none (λ (n : Bor (List ℕ)). n.now) c.in_ok-again.again (sym c.is_some.ensures ∙ c.if-is_some.false) in
     let second = c.in_ok-again-2.ensures.again (seen_behind [] ps) (first.noted none) in
     let none-2 = map-none (λ (n : Bor (List ℕ)). n.now) c.in_ok-again-2.again (sym c.is_some-2.ensures ∙ c.if-is_some-2.false) in

@@ -1,8 +1,7 @@
-use Rattle.std.proofs.Common.{[], take, ap, List}
+use Rattle.std.proofs.Common.{[], take}
 use Rattle.std.proofs.lemmas.List.{take_all}
-use Rattle.module_nets.specs.Tables.{holds, seen_behind, HasNames}
+use Rattle.module_nets.specs.Tables.{holds, seen_behind}
 use Rattle.module_nets.specs.Tops.{instantiated}
-use Rattle.bud_syntax.specs.declared.modules.Module.{Module}
 use Rattle.module_nets.proofs.TopSteps.{modules_more, all_noted}
 use Rattle.module_nets.proofs.tops.all_instantiated.Goals as goal
 

@@ -1,7 +1,6 @@
-use Rattle.std.proofs.Common.{◌≡◌, ◌∙◌, sym}
+use Rattle.std.proofs.Common.{sym}
 use Rattle.std.specs.Str.{bytes_eq}
 use Rattle.bud_design.specs.Names.{printed}
-use Rattle.module_nets.proofs.HeaderSteps.{number_below}
 use Rattle.module_nets.proofs.ListSteps.{at_place}
 use Rattle.module_nets.proofs.TopSteps.{meant_printed, meant_named, found_within}
 use Rattle.module_nets.proofs.tops.meant.Goals as goal

@@ -1,6 +1,5 @@
-use Rattle.std.proofs.Common.{◌≡◌, ◌∙◌, ap, sym, Some}
+use Rattle.std.proofs.Common.{◌∙◌, ap, sym, Some}
 use Rattle.std.specs.Prelude.{Err}
-use Rattle.module_nets.specs.Tops.{IsPlainNumber}
 use Rattle.module_nets.specs.declared.faults.ElabFault.TheVariants.{NoTop}
 use Rattle.module_nets.proofs.TopSteps.{top_is, not_plain}
 use Rattle.module_nets.proofs.tops.named_top.Goals as goal

@@ -1,7 +1,6 @@
-use Rattle.std.proofs.Common.{◌≡◌, ◌∙◌, ap, sym, Some, None, get_or}
+use Rattle.std.proofs.Common.{◌∙◌, sym, get_or}
 use Rattle.std.proofs.lemmas.List.{get_or_default}
 use Rattle.module_nets.specs.Tables.{holds}
-use Rattle.module_nets.specs.Tops.{top_module}
 use Rattle.module_nets.proofs.TopSteps.{no_root, one_is, two_are}
 use Rattle.module_nets.proofs.tops.one_root.Goals as goal
 

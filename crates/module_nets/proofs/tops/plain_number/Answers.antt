@@ -1,4 +1,4 @@
-use Rattle.std.proofs.Common.{◌≡◌, ◌∙◌, sym, subst, get_or, Option, ℕ}
+use Rattle.std.proofs.Common.{sym, subst, get_or, Option, ℕ}
 use Rattle.std.proofs.lemmas.List.{get_or_default}
 use Rattle.module_nets.specs.Tops.{IsPlainNumber}
 use Rattle.module_nets.proofs.TopSteps.{plain_none, plain_leaf, plain_some}

@@ -13,7 +13,7 @@ pub invariant_of-result : goal.invariant_of-result
 invariant_of-result c =
     let m = c.args.«module».now in
     let P : List Port → Type 0 = λ ps. Gathers (map (λ p. net_of p.name p.range) ps) [] c.put_ports.new.self in
-    let ports = subst P c.as_slice.ensures (c.in_ok-put_ports.ensures.ports c.new-nets.ensures) in
+    let ports = subst P c.as_slice.ensures (c.in_ok-put_ports.ensures.ports c.in_ok-nets.ensures.none) in
     let Q : List NetDecl → Type 0 = λ ns. Gathers (port_nets m) (map (λ n. net_of n.name n.range) ns) c.put_nets.new.self in
     let nets = subst Q c.as_slice-2.ensures (c.in_ok-put_nets.ensures.nets (port_nets m) ports) in
     let R : List Instance → Type 0 = λ is. Gathers (port_nets m) (with_uses (port_nets m) (declared_nets m) (flat_map used_by_instance is)) c.put_uses.new.self in

@@ -2,7 +2,7 @@ use Rattle.std.proofs.Common.{◌≡◌, ◌<◌, ℕ, None, length, drop, slice
 use Rattle.std.specs.List.{position_from}
 use Rattle.std.specs.Option.{option_or}
 use Rattle.net_drivers.specs.Links.{names_port}
-use Rattle.net_drivers.proofs.links.named_links.Given as goal
+use Rattle.net_drivers.proofs.links.name_links.Given as goal
 
 abbrev pub invariant-loop-number : goal.invariant-loop-number
 invariant-loop-number l = record {

@@ -1,6 +1,6 @@
 use Rattle.std.proofs.Common.{◌++◌, replicate, ap, ◌∙◌}
 use Rattle.net_drivers.proofs.JoinLaws.{directions-next}
-use Rattle.net_drivers.proofs.joins.directions.Goals as goal
+use Rattle.net_drivers.proofs.joins.fill_directions.Goals as goal
 
 pub loop-port-preserved : goal.loop-port-preserved
 loop-port-preserved c =

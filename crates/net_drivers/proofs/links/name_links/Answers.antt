@@ -6,7 +6,7 @@ use Rattle.module_nets.proofs.ListSteps.{or_none}
 use Rattle.net_drivers.specs.Slots.{IsBelow}
 use Rattle.net_drivers.specs.Links.{noted, names_port, place_named}
 use Rattle.net_drivers.proofs.LinkLaws.{noted-next, length-noted, place_named-below}
-use Rattle.net_drivers.proofs.links.named_links.Goals as goal
+use Rattle.net_drivers.proofs.links.name_links.Goals as goal
 
 pub note-requires : goal.note-requires
 note-requires c =
