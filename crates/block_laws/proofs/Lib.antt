@@ -1,0 +1,11 @@
+pub mod Arriving
+pub mod Standing
+pub mod Staying
+pub mod Composing
+pub mod Budgets
+pub mod ResolvedAlike
+pub mod CheckAmounts
+pub mod Leasts
+pub mod AmountsAlike
+pub mod Readings
+pub mod Promises

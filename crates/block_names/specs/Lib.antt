@@ -1,0 +1,2 @@
+pub mod ClockNames
+pub mod PartReadings

@@ -1,0 +1,13 @@
+pub mod Numbering
+pub mod BlockWires
+pub mod BlockReaching
+pub mod Parts
+pub mod FormKinds
+pub mod Likeness
+pub mod Matching
+pub mod Table
+pub mod PortTable
+pub mod BlockRequirements
+pub mod PieceLaws
+pub mod FileReadings
+pub mod WholeLaw

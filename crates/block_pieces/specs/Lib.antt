@@ -1,0 +1,4 @@
+pub mod BlockReach
+pub mod Standing
+pub mod BlockReadings
+pub mod Reads

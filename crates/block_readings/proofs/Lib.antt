@@ -1,0 +1,12 @@
+pub mod Lists
+pub mod PortNodes
+pub mod ClockRuns
+pub mod FilesRead
+pub mod Ordered
+pub mod Accepted
+pub mod Written
+pub mod Amounts
+pub mod ClockTimes
+pub mod CommandRanges
+pub mod FileRanges
+pub mod Writable

@@ -1,0 +1,10 @@
+pub mod Blocks
+pub mod Meeting
+pub mod BlockPorts
+pub mod BlockClocks
+pub mod BlockExceptions
+pub mod BlockFiles
+pub mod BlockScopes
+pub mod BlockValues
+pub mod Pieces
+pub mod Composition
