@@ -1,0 +1,10 @@
+pub mod TextLaws
+pub mod ClosedTexts
+pub mod PlainWords
+pub mod Rows
+pub mod Elements
+pub mod Numbers
+pub mod ObjectWords
+pub mod Steps
+pub mod Commands
+pub mod Printed
