@@ -14,7 +14,7 @@ use Rattle.budget_report.specs.declared.statuses.Status.TheVariants.{Fault, Limi
 use Rattle.budget_report.specs.Causes.{status_of}
 use Rattle.budget_report.specs.Subjects.{bare}
 use Rattle.budget_steps.specs.Outcomes.{Refusal}
-use Rattle.budget_steps.specs.Steps.{Course, ◌>>=◌, IsCause, step, Follows}
+use Rattle.budget_steps.specs.Steps.{Course, ◌>>=◌, step, Follows}
 use Rattle.budget_steps.specs.Inputs.{Seen, IsWhole, IsOut, IsUnread, IsStopped, file, Grammar, input, unfaulted}
 use Rattle.budget_steps.proofs.Courses.{Within, within_then, follows_refused, follows_within, follows_first, follows_next, Alike, alike_then, alike_step, IsSure}
 

@@ -1,9 +1,8 @@
 -- Laws of jobs: what holds of a job if it holds of each of its steps.
-use Rattle.std.proofs.Common.{◌≡◌, ◌⊎◌, ℕ, Option, Some, None, Result, Ok, Err, ap, sym, ◌∙◌, subst, inl, inr, refl}
+use Rattle.std.proofs.Common.{◌≡◌, ℕ, Option, Some, Result, Ok, Err, inl, inr}
 use Rattle.std.proofs.Common.{List}
 use Rattle.bud_shelf.specs.Outside.{Files, Rose}
 use Rattle.budget_report.specs.declared.causes.Cause.{Cause}
-use Rattle.budget_report.specs.declared.statuses.Status.{Status}
 use Rattle.budget_report.specs.declared.statuses.Status.TheVariants.{Words}
 use Rattle.budget_report.specs.Causes.{status_of}
 use Rattle.budget_report.specs.Subjects.{Subject}
@@ -11,8 +10,9 @@ use Rattle.budget_steps.specs.declared.outcomes.Answer.{Answer}
 use Rattle.budget_steps.specs.Outcomes.{Refusal, Outcome, said_of}
 use Rattle.budget_steps.specs.Steps.{Course, ◌>>=◌, step}
 use Rattle.budget_steps.specs.Inputs.{Seen, Grammar, IsRead, input, unfaulted}
-use Rattle.budget_steps.proofs.Courses.{Within, within_then, Alike, alike_then, alike_step, alike_unless, IsSure}
-use Rattle.budget_steps.proofs.FileLaws.{IsDuring, input_during, IsGrammar, input_alike, input_fits}
+use Rattle.budget_steps.proofs.Courses.{Within, within_then, Alike, alike_then, alike_unless, IsSure}
+use Rattle.budget_steps.proofs.FileLaws.{IsDuring, IsGrammar}
+use Rattle.budget_steps.proofs.Sources.{IsSource, step_source, input_source}
 
 abbrev pub SameStatus : Answer → Answer → Type 0
 SameStatus a b = a.said.status ≡ b.said.status
@@ -34,41 +34,34 @@ fits_then w f first next (Err r) came e = elim came [
   | inr later ↦ next later.0 later.1.0 (Err r) later.1.1 e
 ]
 
-was_read : {V F : Type 0} (grammar : Grammar V F) (shelf : Seen (Option Files)) (name : List ℕ) (v : V) → input shelf grammar name (Ok v) → IsRead grammar v
-was_read grammar shelf name v came = (came.0, (came.1.0.1, came.1.1))
+-- a part of the job that comes to a value, and then what follows from it
+pub then_job : {A : Type 0} (Known : A → Type 0) (w : Seen (Option Files) → Course A) (f : A → Seen (Option Files) → Course Answer)
+    → IsSource Known w → ((a : A) → Known a → IsJob (f a)) → IsJob (λ shelf. w shelf >>= λ a. f a shelf)
+then_job Known w f first next = record {
+  during = λ inner outer during. within_then (w inner) (w outer) (λ a. f a inner) (λ a. f a outer)
+      (first.during inner outer during) (λ a came. (next a (first.known inner a came)).during inner outer during);
+  alike = λ files new before now. alike_then SameStatus (Rose before now)
+      (w (record { old = Some files; new = new; before = before; now = now }))
+      (w (unfaulted files))
+      (λ a. f a (record { old = Some files; new = new; before = before; now = now }))
+      (λ a. f a (unfaulted files))
+      (first.alike files new before now)
+      (λ a came. (next a (first.known (record { old = Some files; new = new; before = before; now = now }) a came)).alike files new before now);
+  fits = λ shelf. fits_then (w shelf) (λ a. f a shelf) (first.fits shelf) (λ a came. (next a (first.known shelf a came)).fits shelf);
+}
 
 -- an input, and then what follows from its value
 pub after_input : {V F : Type 0} (grammar : Grammar V F) (name : List ℕ) (course : V → Seen (Option Files) → Course Answer) → IsGrammar grammar
     → ((v : V) → IsRead grammar v → IsJob (course v)) → IsJob (λ shelf. input shelf grammar name >>= λ v. course v shelf)
-after_input grammar name course is next = record {
-  during = λ inner outer during. within_then (input inner grammar name) (input outer grammar name) (λ v. course v inner) (λ v. course v outer)
-      (input_during grammar name inner outer during) (λ v came. (next v (was_read grammar inner name v came)).during inner outer during);
-  alike = λ files new before now. alike_then SameStatus (Rose before now)
-      (input (record { old = Some files; new = new; before = before; now = now }) grammar name)
-      (input (unfaulted files) grammar name)
-      (λ v. course v (record { old = Some files; new = new; before = before; now = now }))
-      (λ v. course v (unfaulted files))
-      (input_alike grammar name is files new before now)
-      (λ v came. (next v (was_read grammar (record { old = Some files; new = new; before = before; now = now }) name v came)).alike files new before now);
-  fits = λ shelf. fits_then (input shelf grammar name) (λ v. course v shelf) (input_fits grammar name is shelf) (λ v came. (next v (was_read grammar shelf name v came)).fits shelf);
-}
+after_input grammar name course is next =
+    then_job (λ v. IsRead grammar v) (λ shelf. input shelf grammar name) course (input_source grammar name is) next
 
 -- a step, and then what follows from its value
 pub after_step : {A F : Type 0} (answers : Result A F → Type 0) (subject : Subject) (cause : F → Cause) (course : A → Seen (Option Files) → Course Answer)
     → IsSure ◌≡◌ answers cause → ((fault : F) → status_of (cause fault) ≡ Words → ⊥)
     → ((a : A) → answers (Ok a) → IsJob (course a)) → IsJob (λ shelf. step answers subject cause >>= λ a. course a shelf)
-after_step answers subject cause course sure fits next = record {
-  during = λ inner outer during. within_then (step answers subject cause) (step answers subject cause) (λ a. course a inner) (λ a. course a outer)
-      (λ r came. came) (λ a came. (next a came).during inner outer during);
-  alike = λ files new before now. alike_then SameStatus (Rose before now) (step answers subject cause) (step answers subject cause)
-      (λ a. course a (record { old = Some files; new = new; before = before; now = now }))
-      (λ a. course a (unfaulted files))
-      (alike_step ◌≡◌ (Rose before now) answers subject cause sure)
-      (λ a came. (next a came).alike files new before now);
-  fits = λ shelf. fits_then (step answers subject cause) (λ a. course a shelf)
-      (λ r came e. fits came.0 (sym (ap (λ (x : Refusal). status_of x.cause) came.1.1.1) ∙ e))
-      (λ a came. (next a came).fits shelf);
-}
+after_step answers subject cause course sure fits next =
+    then_job (λ a. answers (Ok a)) (λ shelf. step answers subject cause) course (step_source answers subject cause sure fits) next
 
 -- the last step
 pub last : (course : Course Answer) → Alike SameStatus ⊥ course course

@@ -1,3 +1,4 @@
 pub mod Courses
 pub mod FileLaws
+pub mod Sources
 pub mod JobLaws

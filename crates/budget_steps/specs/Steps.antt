@@ -2,10 +2,9 @@
 use Rattle.std.specs.Prelude.{◌≡◌, ◌⊎◌, Result, Ok, Err}
 use Rattle.budget_report.specs.declared.causes.Cause.{Cause}
 use Rattle.budget_report.specs.declared.statuses.Status.{Status}
-use Rattle.budget_report.specs.declared.statuses.Status.TheVariants.{Done, Violated, Words, Fault, Refused, Design, Limit, Certificate, Memory}
+use Rattle.budget_report.specs.declared.statuses.Status.TheVariants.{Memory}
 use Rattle.budget_report.specs.Causes.{status_of}
 use Rattle.budget_report.specs.Subjects.{Subject}
-use Rattle.budget_steps.specs.declared.outcomes.Said.{Said}
 use Rattle.budget_steps.specs.declared.outcomes.Stop.{Stop}
 use Rattle.budget_steps.specs.declared.outcomes.Stop.TheVariants.{Refused as Ended, NoMemory}
 use Rattle.budget_steps.specs.Outcomes.{Refusal, refusal_said}
@@ -20,6 +19,11 @@ Course A = Result A Refusal → Type 0
 abbrev pub ◌>>=◌ : {A B : Type 0} → Course A → (A → Course B) → Course B
 ◌>>=◌ {A} first next (Ok b) = (a : A) × (first (Ok a) × next a (Ok b))
 ◌>>=◌ {A} first next (Err r) = first (Err r) ⊎ ((a : A) × (first (Ok a) × next a (Err r)))
+
+-- just this value
+abbrev pub comes_to : {A : Type 0} → A → Course A
+comes_to a (Ok b) = b ≡ a
+comes_to a (Err r) = ⊥
 
 abbrev pub ◌>>◌ : {A B : Type 0} → Course A → Course B → Course B
 ◌>>◌ first next = first >>= λ _. next

@@ -45,7 +45,7 @@ pub fn load<R: Input, S: Shelf>(alloc: Global, shelf: &mut S, name: &str) -> Res
 }
 
 /// The value that bytes read as; the name is that of their file.
-fn read_text<R: Input>(alloc: Global, name: &str, text: &[u8]) -> Result<R::Value, Stop>
+pub fn read_text<R: Input>(alloc: Global, name: &str, text: &[u8]) -> Result<R::Value, Stop>
     requires { length text.now ≤ longest_file }
     ensures reading { Follows (step (R.grammar.answers text.now) bare (R.grammar.cause name.now)) result }
     ensures value { IfOk result R.is_value }

@@ -4,5 +4,5 @@
 mod inputs;
 mod outcomes;
 
-pub use inputs::{Input, load, stopped};
+pub use inputs::{Input, load, read_text, stopped};
 pub use outcomes::{Answer, Said, Stop, Write, refused, refused_by};

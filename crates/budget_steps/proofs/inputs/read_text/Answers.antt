@@ -1,4 +1,4 @@
-use Rattle.std.proofs.Common.{◌≡◌, ℕ, List, ap, ◌∙◌, subst}
+use Rattle.std.proofs.Common.{ℕ, List, ap, ◌∙◌, subst}
 use Rattle.budget_report.specs.Subjects.{bare}
 use Rattle.budget_report.specs.declared.causes.Cause.{Cause}
 use Rattle.budget_steps.specs.Steps.{IsRefused}
