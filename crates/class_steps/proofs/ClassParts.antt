@@ -1,5 +1,5 @@
 -- A class is its clock, its edge and its exceptions, and an exception that is met is its number and its steps.
-use Rattle.std.proofs.Common.{◌≡◌, ◌==◌, ◌&&◌, true, refl, ap, arith, eq-eqb}
+use Rattle.std.proofs.Common.{◌≡◌, ◌==◌, ◌&&◌, refl, arith, eq-eqb}
 use Rattle.std.specs.Bool.{Decides}
 use Rattle.bud_design.specs.declared.layers.Class.{Class}
 use Rattle.bud_design.specs.declared.layers.Met.{Met}

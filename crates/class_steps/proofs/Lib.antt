@@ -1,2 +1,3 @@
-pub mod GroupPlaces
 pub mod ClassParts
+mod GroupSets
+mod LinkLaws

@@ -1,1 +1,4 @@
 pub mod Classes
+pub mod Groups
+pub mod Keys
+pub mod Tables

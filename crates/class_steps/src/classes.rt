@@ -1,46 +1,27 @@
-ghost use Rattle.std.specs.Prelude.{◌≡◌, ◌<◌, ◌↔◌, [], ◌∷◌, length, All, IsTrue, IfOk, MatchOption};
-ghost use Rattle.bud_design.specs.Exceptions.{class_of, class_at};
-ghost use Rattle.bud_design.specs.Layers.{class_number};
-ghost use Rattle.class_steps.specs.Classes.{IsFoundClass};
+ghost use Rattle.std.specs.Prelude.{◌≡◌, ◌↔◌, IsTrue, IfOk};
+ghost use Rattle.bud_design.specs.Exceptions.{class_at};
+ghost use Rattle.class_steps.specs.Groups.{AreGroupPins};
 
-use crate::marks::meets_from;
-use crate::steps::{first_steps, next_steps};
+use crate::groups::GroupPins;
+use crate::steps::next_steps;
 use bud_base::{Listed, PinId};
-use bud_design::{Class, Constraints, Launch, Met};
+use bud_design::{Class, Constraints};
 use std::alloc::{AllocError, Global};
 
-/// The class of a launch at its pin.
-pub fn first_class(alloc: Global, all: &Constraints, launch: &Launch) -> Result<Class, AllocError>
-    ensures { IfOk result (λ k. k ≡ class_of all.now launch.now (launch.now.pin.0 ∷ [])) }
-{
-    let mut met = Vec::new(alloc);
-    for exception in all.exceptions.as_slice() {
-        if meets_from(exception, launch) {
-            met.push(Met {
-                number: exception.number,
-                steps: first_steps(exception.groups.as_slice(), launch.pin),
-            })?;
-        }
-    }
-    Ok(Class {
-        clock: launch.clock,
-        edge: launch.edge,
-        exceptions: Listed::from_vec(met),
-    })
-}
-
-/// The class behind one more pin.
+/// The class behind one more pin, by the pins of the exceptions' groups; in time linear in the class.
 pub fn next_class(
     alloc: Global,
     all: &Constraints,
+    groups: &GroupPins,
     class: &Class,
     pin: PinId,
 ) -> Result<Class, AllocError>
+    requires { AreGroupPins all.now.exceptions groups.now }
     ensures { IfOk result (λ k. k ≡ class_at all.now class.now pin.0) }
 {
     let mut met = Vec::new(alloc);
     for before in class.exceptions.as_slice() {
-        let after = next_steps(all.exceptions.as_slice(), before, pin)?;
+        let after = next_steps(all.exceptions.as_slice(), groups, before, pin)?;
         met.push(after)?;
     }
     Ok(Class {
@@ -57,16 +38,4 @@ pub fn same_class(class: &Class, other: &Class) -> bool
         return false;
     }
     class.exceptions.as_slice() == other.exceptions.as_slice()
-}
-
-/// The first place of the class in the list.
-pub fn find_class(classes: &[Class], class: &Class) -> Option<usize>
-    ensures { IsFoundClass classes.now class.now result }
-{
-    for (place, other) in classes.iter().enumerate() {
-        if same_class(other, class) {
-            return Some(place);
-        }
-    }
-    None
 }

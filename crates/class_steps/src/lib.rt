@@ -1,11 +1,15 @@
-//! Classes of launches, and how a class goes on from pin to pin.
+//! How a class goes on from pin to pin.
 #![tactic(auto)]
 
 mod classes;
-mod marks;
+mod groups;
+mod keys;
 mod steps;
+mod tables;
 
-pub use classes::{find_class, first_class, next_class, same_class};
+pub use classes::{next_class, same_class};
+pub use groups::{GroupPin, GroupPins};
+pub use tables::ClassTable;
 
 #[cfg(test)]
 mod tests;

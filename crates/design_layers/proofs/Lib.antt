@@ -1,3 +1,4 @@
+mod MarkSteps
 pub mod ArcItems
 pub mod StateLimit
 pub mod ItemLimit

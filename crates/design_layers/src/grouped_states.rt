@@ -1,11 +1,12 @@
-ghost use Rattle.std.specs.Prelude.{◌≡◌, ◌<◌, false, nat_lt, map, filter, length, slice_index_or, All, IfOk};
-ghost use Rattle.bud_design.specs.Exceptions.{groups_of};
+ghost use Rattle.std.specs.Prelude.{◌≡◌, ◌<◌, false, map, filter, length, slice_index_or, All, IfOk};
 ghost use Rattle.layer_theory.specs.LayerAnswers.{is_grouped as lists_groups};
 ghost use Rattle.path_states.specs.Exploring.{PinsBelow};
+ghost use Rattle.design_layers.specs.GroupMarks.{AreMarked};
 ghost use Rattle.design_layers.specs.GroupedStates.{IsStatesAnswer};
 
+use crate::group_marks::{GroupMarks, group_marks, has_groups};
 use bud_base::Item;
-use bud_design::{Class, Constraints, Exception};
+use bud_design::{Class, Constraints};
 use layer_theory::LayerFault;
 use path_states::{State, StateTable, explore};
 use std::alloc::{AllocError, Global};
@@ -13,37 +14,40 @@ use std::alloc::{AllocError, Global};
 /// The most states of classes with groups.
 const MOST_STATES: usize = 8388608;
 
-fn has_groups(exceptions: &[Exception], number: u32) -> bool
-    ensures { result ≡ nat_lt 0 (length (groups_of exceptions.now number)) }
-{
-    for exception in exceptions {
-        if exception.number == number {
-            return exception.groups.len() > 0;
-        }
-    }
-    false
-}
-
 /// Whether the class lists an exception with groups.
-fn is_grouped(all: &Constraints, class: &Class) -> bool
+fn is_grouped(all: &Constraints, groups: &GroupMarks, class: &Class) -> bool
+    requires { AreMarked all.now.exceptions groups.now.entries }
     ensures { result ≡ lists_groups class.now.exceptions all.now }
 {
-    let exceptions = all.exceptions.as_slice();
     for met in class.exceptions.as_slice() {
-        if has_groups(exceptions, met.number) {
+        if has_groups(all, groups, met.number) {
             return true;
         }
     }
     false
 }
 
-/// Which classes list an exception with groups.
+/// Which classes list an exception with groups, by one look-up for each exception of each.
 fn grouped_kinds(alloc: Global, all: &Constraints, kinds: &[Class]) -> Result<Vec<bool>, AllocError>
+    ensures { IfOk result (λ marks. marks.items ≡ map (λ k. lists_groups k.exceptions all.now) kinds.now) }
+{
+    let groups = group_marks(alloc, all.exceptions.as_slice())?;
+    let marks = marked_kinds(alloc, all, &groups, kinds)?;
+    Ok(marks)
+}
+
+fn marked_kinds(
+    alloc: Global,
+    all: &Constraints,
+    groups: &GroupMarks,
+    kinds: &[Class],
+) -> Result<Vec<bool>, AllocError>
+    requires { AreMarked all.now.exceptions groups.now.entries }
     ensures { IfOk result (λ marks. marks.items ≡ map (λ k. lists_groups k.exceptions all.now) kinds.now) }
 {
     let mut marks = Vec::with_capacity(alloc, kinds.len())?;
     for kind in kinds {
-        marks.push(is_grouped(all, kind))?;
+        marks.push(is_grouped(all, groups, kind))?;
     }
     Ok(marks)
 }

@@ -3,6 +3,7 @@
 
 mod arc_items;
 mod checking;
+mod group_marks;
 mod grouped_states;
 mod layers;
 mod weights;

@@ -81,17 +81,16 @@ fn place_all(
     requires lists { IsWithin (table_of table.now) }
     requires live { length live.now ≡ length table.now.states.keys }
     requires edges { EndsWithin (table_of table.now) live.now }
-    requires ranked { AreRanked table.now.kinds.items table.now.states.keys table.now.launches.items live.now ranks.now.keys.items ranks.now.ranks.items }
+    requires ranked { AreRanked table.now.kinds table.now.states.keys table.now.launches.items live.now ranks.now.keys.items ranks.now.ranks.items }
     ensures { IfOk result (λ x. ArePlaces all.now (table_of table.now) live.now ranks.now.ranks.items x.nodes.items x.items.items x.starts.items) }
 {
-    let kinds = table.kinds.as_slice();
     let places = ranks.ranks.as_slice();
     let found = place_nodes(alloc, table, live, ranks)?;
     let nodes = sorted(found)?;
     let edges = place_items(alloc, table, live, ranks)?;
     let items = sorted(edges)?;
     let order = nodes.as_slice();
-    let begun = place_starts(alloc, all, kinds, places, order)?;
+    let begun = place_starts(alloc, all, &table.kinds, places, order)?;
     let starts = sorted(begun)?;
     Ok(Places {
         nodes,
@@ -112,9 +111,9 @@ fn layered_from(
 ) -> Result<Layered, AllocError>
     requires sound { HasSoundConstraints all.now }
     requires links { AreLinks (map capture_item all.now.captures) links.now }
-    requires keys { All (λ x. x.kind < length table.now.kinds.items) keys.now }
-    requires places { CanLayer arcs.now all.now (length links.now.first) table.now.kinds.items keys.now places.now.nodes.items places.now.items.items places.now.starts.items }
-    ensures { IfOk result (λ x. IsLayeredFrom arcs.now all.now table.now.kinds.items keys.now places.now.nodes.items places.now.items.items places.now.starts.items x) }
+    requires keys { All (λ x. x.kind < length table.now.kinds) keys.now }
+    requires places { CanLayer arcs.now all.now (length links.now.first) table.now.kinds keys.now places.now.nodes.items places.now.items.items places.now.starts.items }
+    ensures { IfOk result (λ x. IsLayeredFrom arcs.now all.now table.now.kinds keys.now places.now.nodes.items places.now.items.items places.now.starts.items x) }
 {
     let nodes = places.nodes.as_slice();
     let items = places.items.as_slice();

@@ -46,7 +46,7 @@ pub fn place_nodes(
 ) -> Result<Vec<Placed>, AllocError>
     requires lists { IsWithin (table_of table.now) }
     requires live { length live.now ≡ length table.now.states.keys }
-    requires ranked { AreRanked table.now.kinds.items table.now.states.keys table.now.launches.items live.now ranks.now.keys.items ranks.now.ranks.items }
+    requires ranked { AreRanked table.now.kinds table.now.states.keys table.now.launches.items live.now ranks.now.keys.items ranks.now.ranks.items }
     ensures { IfOk result (λ nodes. AreNodes (table_of table.now) live.now ranks.now.ranks.items (length table.now.states.keys) nodes.items) }
 {
     let states = table.states.as_slice();

@@ -1,34 +1,36 @@
-ghost use Rattle.std.specs.Prelude.{◌≡◌, ◌<◌, true, map, length, All, AllPairs, IfOk};
+ghost use Rattle.std.specs.Prelude.{◌≡◌, ◌<◌, ◌∷◌, [], true, map, length, All, AllPairs, IfOk};
+ghost use Rattle.bud_design.specs.Exceptions.{class_of};
 ghost use Rattle.state_numbers.specs.Placed.{placed_before};
 ghost use Rattle.path_classes.specs.Placing.{AreStarts, AreDifferent, IsStartPlace, start_of};
 
 use bud_base::{NodeId, Start};
 use bud_design::{Class, Constraints, Launch};
-use class_steps::{find_class, first_class};
+use class_steps::ClassTable;
+use met_lists::first_classes;
 use state_numbers::{Placed, find_placed};
 use std::alloc::{AllocError, Global};
 
-/// The node where a launch begins, where it is one.
+/// The node where a launch of this class begins, where it is one.
 fn start_place(
-    alloc: Global,
     all: &Constraints,
-    kinds: &[Class],
+    kinds: &ClassTable,
     ranks: &[Option<u32>],
     nodes: &[Placed],
     launch: &Launch,
-) -> Result<Option<usize>, AllocError>
+    class: &Class,
+) -> Option<usize>
     requires ranks { length ranks.now ≡ length kinds.now }
     requires rising { AllPairs (λ x y. placed_before x y ≡ true) nodes.now }
     requires kinds { AreDifferent kinds.now }
-    ensures { IfOk result (λ place. IsStartPlace all.now kinds.now ranks.now nodes.now launch.now place) }
+    requires first { class.now ≡ class_of all.now launch.now (launch.now.pin.0 ∷ []) }
+    ensures { IsStartPlace all.now kinds.now ranks.now nodes.now launch.now result }
 {
-    let class = first_class(alloc, all, launch)?;
-    let Some(kind) = find_class(kinds, &class) else {
-        return Ok(None);
+    let Some(kind) = kinds.find(class) else {
+        return None;
     };
     match ranks[kind] {
-        None => Ok(None),
-        Some(rank) => Ok(find_placed(nodes, rank, launch.pin.0)),
+        None => None,
+        Some(rank) => find_placed(nodes, rank, launch.pin.0),
     }
 }
 
@@ -36,7 +38,7 @@ fn start_place(
 pub fn place_starts(
     alloc: Global,
     all: &Constraints,
-    kinds: &[Class],
+    kinds: &ClassTable,
     ranks: &[Option<u32>],
     nodes: &[Placed],
 ) -> Result<Vec<Placed>, AllocError>
@@ -45,10 +47,29 @@ pub fn place_starts(
     requires kinds { AreDifferent kinds.now }
     ensures { IfOk result (λ starts. AreStarts all.now kinds.now ranks.now nodes.now (length all.now.launches) starts.items) }
 {
+    let classes = first_classes(alloc, all)?;
+    starts_in(alloc, all, kinds, ranks, nodes, classes.as_slice())
+}
+
+/// The nodes where launches of these classes begin, each with its launch.
+fn starts_in(
+    alloc: Global,
+    all: &Constraints,
+    kinds: &ClassTable,
+    ranks: &[Option<u32>],
+    nodes: &[Placed],
+    classes: &[Class],
+) -> Result<Vec<Placed>, AllocError>
+    requires ranks { length ranks.now ≡ length kinds.now }
+    requires rising { AllPairs (λ x y. placed_before x y ≡ true) nodes.now }
+    requires kinds { AreDifferent kinds.now }
+    requires classes { classes.now ≡ map (λ l. class_of all.now l (l.pin.0 ∷ [])) all.now.launches }
+    ensures { IfOk result (λ starts. AreStarts all.now kinds.now ranks.now nodes.now (length all.now.launches) starts.items) }
+{
     let launches = all.launches.as_slice();
     let mut starts = Vec::new(alloc);
     for place in 0..launches.len() {
-        let begin = start_place(alloc, all, kinds, ranks, nodes, &launches[place])?;
+        let begin = start_place(all, kinds, ranks, nodes, &launches[place], &classes[place]);
         let Some(node) = begin else {
             continue;
         };

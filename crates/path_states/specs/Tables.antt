@@ -16,7 +16,7 @@ pub record Table : Type 0 where
   pub arcs : List ArcId
 
 abbrev pub table_of : StateTable → Table
-table_of t = record { kinds = t.kinds.items; states = t.states.keys; launches = t.launches.items; edges = t.edges.items; arcs = t.arcs.items }
+table_of t = record { kinds = t.kinds; states = t.states.keys; launches = t.launches.items; edges = t.edges.items; arcs = t.arcs.items }
 
 abbrev pub state_at : List State → ℕ → State
 state_at states i = slice_index_or states i (record { pin = record { 0 = 0 }; kind = 0 })

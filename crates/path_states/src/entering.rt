@@ -6,21 +6,23 @@ ghost use Rattle.path_states.specs.Tables.{table_of, IsWithin};
 use crate::tables::{State, StateTable};
 use bud_base::PinId;
 use bud_design::Class;
-use class_steps::find_class;
+use class_steps::ClassTable;
 use indexmap::IndexSet;
-use std::alloc::AllocError;
+use std::alloc::{AllocError, Global};
+use std::mem;
 
 /// The number of a class, which is added where it isn't there.
-fn enter_class(kinds: &mut Vec<Class>, class: Class) -> Result<usize, AllocError>
-    requires { AllPairs (λ j k. j ≡ k → ⊥) kinds.old.items }
-    ensures entered { IfOk result (λ i. IsEntered kinds.old.items kinds.new.items class i) }
-    ensures different { OnOk result (AllPairs (λ j k. j ≡ k → ⊥) kinds.new.items) }
+fn enter_class(alloc: Global, kinds: &mut ClassTable, class: Class) -> Result<usize, AllocError>
+    requires { AllPairs (λ j k. j ≡ k → ⊥) kinds.old }
+    ensures entered { IfOk result (λ i. IsEntered kinds.old kinds.new class i) }
+    ensures different { OnOk result (AllPairs (λ j k. j ≡ k → ⊥) kinds.new) }
 {
-    if let Some(place) = find_class(kinds.as_slice(), &class) {
+    if let Some(place) = kinds.find(&class) {
         return Ok(place);
     }
     let place = kinds.len();
-    kinds.push(class)?;
+    let others = mem::replace(kinds, ClassTable::new(alloc));
+    *kinds = others.with(class)?;
     Ok(place)
 }
 
@@ -43,6 +45,7 @@ fn enter_state(states: &mut IndexSet<State>, state: State) -> Result<Entered, Al
 
 /// Enters a pin in a class that this launch reaches.
 pub fn enter(
+    alloc: Global,
     table: &mut StateTable,
     pin: PinId,
     class: Class,
@@ -51,7 +54,7 @@ pub fn enter(
     requires { IsWithin (table_of table.old) }
     ensures { IfOk result (λ i. Enters (table_of table.old) (table_of table.new) i pin.0 class launch) }
 {
-    let Ok(kind) = u32::try_from(enter_class(&mut table.kinds, class)?) else {
+    let Ok(kind) = u32::try_from(enter_class(alloc, &mut table.kinds, class)?) else {
         return Err(AllocError);
     };
     let entered = enter_state(&mut table.states, State { pin, kind })?;
@@ -69,8 +72,8 @@ pub fn enter_kind(
     launch: u32,
 ) -> Result<u32, AllocError>
     requires lists { IsWithin (table_of table.old) }
-    requires kind { kind < length table.old.kinds.items }
-    ensures { IfOk result (λ i. Enters (table_of table.old) (table_of table.new) i pin.0 (class_number table.old.kinds.items kind) launch) }
+    requires kind { kind < length table.old.kinds }
+    ensures { IfOk result (λ i. Enters (table_of table.old) (table_of table.new) i pin.0 (class_number table.old.kinds kind) launch) }
 {
     let entered = enter_state(&mut table.states, State { pin, kind })?;
     if entered.added {

@@ -1,26 +1,28 @@
-ghost use Rattle.std.specs.Prelude.{◌≡◌, ◌<◌, suc, length, OnOk, IfOk};
+ghost use Rattle.std.specs.Prelude.{◌≡◌, ◌<◌, ◌∷◌, [], suc, length, OnOk, IfOk};
 ghost use Rattle.bud_base.specs.Leaving.{AreLinks};
 ghost use Rattle.bud_base.specs.Paths.{item_at};
-ghost use Rattle.bud_design.specs.Exceptions.{class_at};
+ghost use Rattle.bud_design.specs.Exceptions.{class_of, class_at};
+ghost use Rattle.bud_design.specs.TimingPaths.{launch_at};
 ghost use Rattle.path_states.specs.Tables.{table_of, class_in, IsWithin};
 ghost use Rattle.path_states.specs.Entering.{Enters};
-ghost use Rattle.path_states.specs.Groups.{AreOutside};
+ghost use Rattle.path_states.specs.Groups.{AreGroups};
 ghost use Rattle.path_states.specs.Exploring.{IsExploring, IsExplored, Follows, AddsEdge, CanFollow, PinsBelow};
 
 use crate::entering::{enter, enter_kind};
-use crate::groups::grouped_pins;
+use crate::groups::{Groups, find_groups};
 use crate::tables::StateTable;
 use bud_base::{ArcId, Item, ItemId, Links, NodeId, PinId};
-use bud_design::Constraints;
-use class_steps::{first_class, next_class};
+use bud_design::{Class, Constraints};
+use class_steps::{ClassTable, next_class};
 use indexmap::IndexSet;
+use met_lists::first_classes;
 use std::alloc::{AllocError, Global};
 
 /// Enters a pin in the class behind a state; where the pin lies in no group, that is the state's.
 fn enter_behind(
     alloc: Global,
     all: &Constraints,
-    grouped: &[bool],
+    groups: &Groups,
     table: &mut StateTable,
     from: u32,
     pin: PinId,
@@ -28,16 +30,22 @@ fn enter_behind(
 ) -> Result<u32, AllocError>
     requires lists { IsWithin (table_of table.old) }
     requires from { from < length table.old.states.keys }
-    requires pin { pin.0 < length grouped.now }
-    requires grouped { AreOutside all.now.exceptions grouped.now }
+    requires pin { pin.0 < length groups.now.marks.items }
+    requires groups { AreGroups all.now.exceptions groups.now }
     ensures { IfOk result (λ i. Enters (table_of table.old) (table_of table.new) i pin.0 (class_at all.now (class_in (table_of table.old) from) pin.0) launch) }
 {
     let state = table.states.as_slice()[from as usize];
-    if !grouped[pin.0 as usize] {
+    if !groups.marks[pin.0 as usize] {
         return enter_kind(table, pin, state.kind, launch);
     }
-    let class = next_class(alloc, all, &table.kinds[state.kind as usize], pin)?;
-    enter(table, pin, class, launch)
+    let class = next_class(
+        alloc,
+        all,
+        &groups.pins,
+        &table.kinds.as_slice()[state.kind as usize],
+        pin,
+    )?;
+    enter(alloc, table, pin, class, launch)
 }
 
 /// Goes along an arc from a state.
@@ -45,19 +53,19 @@ fn follow(
     alloc: Global,
     arcs: &[Item],
     all: &Constraints,
-    grouped: &[bool],
+    groups: &Groups,
     table: &mut StateTable,
     from: u32,
     arc: ItemId,
     launch: u32,
 ) -> Result<(), AllocError>
     requires state { CanFollow arcs.now (table_of table.old) from arc.0 launch }
-    requires pin { (item_at arcs.now arc.0).to.0 < length grouped.now }
-    requires grouped { AreOutside all.now.exceptions grouped.now }
+    requires pin { (item_at arcs.now arc.0).to.0 < length groups.now.marks.items }
+    requires groups { AreGroups all.now.exceptions groups.now }
     ensures { OnOk result (Follows arcs.now all.now (table_of table.old) (table_of table.new) from arc.0 launch) }
 {
     let pin = PinId(arcs[arc.0 as usize].to.0);
-    let to = enter_behind(alloc, all, grouped, table, from, pin, launch)?;
+    let to = enter_behind(alloc, all, groups, table, from, pin, launch)?;
     add_edge(table, NodeId(from), NodeId(to), ArcId(arc.0))?;
     Ok(())
 }
@@ -76,21 +84,22 @@ fn add_edge(table: &mut StateTable, from: NodeId, to: NodeId, arc: ArcId) -> Res
     Ok(())
 }
 
-/// Enters the state where a launch begins.
+/// Enters the state where a launch begins, in its class there.
 fn begin(
     alloc: Global,
     arcs: &[Item],
     all: &Constraints,
     table: &mut StateTable,
     number: u32,
+    class: Class,
 ) -> Result<(), AllocError>
     requires within { number < length all.now.launches }
+    requires first { class ≡ class_of all.now (launch_at all.now.launches number) ((launch_at all.now.launches number).pin.0 ∷ []) }
     requires exploring { IsExploring arcs.now all.now (table_of table.old) (length table.old.states.keys) number number }
     ensures { OnOk result (IsExploring arcs.now all.now (table_of table.new) (length table.old.states.keys) number (suc number)) }
 {
-    let launch = all.launches.as_slice()[number as usize];
-    let class = first_class(alloc, all, &launch)?;
-    let _ = enter(table, launch.pin, class, number)?;
+    let pin = all.launches.as_slice()[number as usize].pin;
+    let _ = enter(alloc, table, pin, class, number)?;
     Ok(())
 }
 
@@ -100,13 +109,13 @@ fn take(
     arcs: &[Item],
     links: &Links,
     all: &Constraints,
-    grouped: &[bool],
+    groups: &Groups,
     table: &mut StateTable,
     done: u32,
     launch: u32,
 ) -> Result<(), AllocError>
-    requires pin_marks { length grouped.now ≡ length links.now.first }
-    requires grouped { AreOutside all.now.exceptions grouped.now }
+    requires pin_marks { length groups.now.marks.items ≡ length links.now.first }
+    requires groups { AreGroups all.now.exceptions groups.now }
     requires links { AreLinks arcs.now links.now }
     requires pins { PinsBelow (length links.now.first) arcs.now all.now }
     requires next { done < length table.old.states.keys }
@@ -116,7 +125,7 @@ fn take(
     let pin = table.states.as_slice()[done as usize].pin;
     let mut next = links.first(NodeId(pin.0));
     while let Some(arc) = next {
-        follow(alloc, arcs, all, grouped, table, done, arc, launch)?;
+        follow(alloc, arcs, all, groups, table, done, arc, launch)?;
         next = links.next(arc);
     }
     Ok(())
@@ -128,13 +137,13 @@ fn close(
     arcs: &[Item],
     links: &Links,
     all: &Constraints,
-    grouped: &[bool],
+    groups: &Groups,
     table: &mut StateTable,
     mut done: u32,
     launch: u32,
 ) -> Result<u32, AllocError>
-    requires pin_marks { length grouped.now ≡ length links.now.first }
-    requires grouped { AreOutside all.now.exceptions grouped.now }
+    requires pin_marks { length groups.now.marks.items ≡ length links.now.first }
+    requires groups { AreGroups all.now.exceptions groups.now }
     requires links { AreLinks arcs.now links.now }
     requires pins { PinsBelow (length links.now.first) arcs.now all.now }
     requires exploring { IsExploring arcs.now all.now (table_of table.old) done launch (suc launch) }
@@ -142,7 +151,7 @@ fn close(
     ensures explored { OnOk result (IsExploring arcs.now all.now (table_of table.new) (length table.new.states.keys) launch (suc launch)) }
 {
     while (done as usize) < table.states.len() {
-        take(alloc, arcs, links, all, grouped, table, done, launch)?;
+        take(alloc, arcs, links, all, groups, table, done, launch)?;
         let Some(more) = done.checked_add(1) else {
             return Err(AllocError);
         };
@@ -164,22 +173,20 @@ pub fn explore(
 {
     let mut links = Links::new(alloc, pins, arcs.len())?;
     links.fill(arcs);
-    let grouped = grouped_pins(alloc, all.exceptions.as_slice(), pins)?;
-    let marks = grouped.as_slice();
+    let groups = find_groups(alloc, all.exceptions.as_slice(), pins)?;
     let mut table = StateTable {
-        kinds: Vec::new(alloc),
+        kinds: ClassTable::new(alloc),
         states: IndexSet::new(alloc),
         launches: Vec::new(alloc),
         edges: Vec::new(alloc),
         arcs: Vec::new(alloc),
     };
+    let mut number = 0;
     let mut done = 0;
-    for place in 0..all.launches.len() {
-        let Ok(number) = u32::try_from(place) else {
-            return Err(AllocError);
-        };
-        begin(alloc, arcs, all, &mut table, number)?;
-        done = close(alloc, arcs, &links, all, marks, &mut table, done, number)?;
+    for class in first_classes(alloc, all)? {
+        begin(alloc, arcs, all, &mut table, number, class)?;
+        done = close(alloc, arcs, &links, all, &groups, &mut table, done, number)?;
+        number += 1;
     }
     Ok(table)
 }

@@ -1,11 +1,30 @@
 ghost use Rattle.std.specs.Prelude.{◌≡◌, ◌==◌, length, IfOk};
 ghost use Rattle.std.specs.List.{list_any};
 ghost use Rattle.bud_design.specs.Exceptions.{has_pin};
-ghost use Rattle.path_states.specs.Groups.{Marks, is_in_groups, AreOutside};
+ghost use Rattle.path_states.specs.Groups.{Marks, is_in_groups, AreOutside, AreGroups};
 
 use bud_base::PinId;
 use bud_design::{Exception, PinList};
+use class_steps::GroupPins;
 use std::alloc::{AllocError, Global};
+
+/// The groups of exceptions.
+#[derive(Drop)]
+pub struct Groups {
+    /// Which pins lie in a group, and perhaps others.
+    pub marks: Vec<bool>,
+    pub pins: GroupPins,
+}
+
+/// The groups of the exceptions, among so many pins.
+pub fn find_groups(alloc: Global, exceptions: &[Exception], pins: u32) -> Result<Groups, AllocError>
+    ensures size { IfOk result (λ groups. length groups.marks.items ≡ pins) }
+    ensures groups { IfOk result (AreGroups exceptions.now) }
+{
+    let marks = grouped_pins(alloc, exceptions, pins)?;
+    let pins = GroupPins::of(alloc, exceptions)?;
+    Ok(Groups { marks, pins })
+}
 
 fn mark_pin(pin: PinId, marks: &mut [bool])
     ensures { Marks (λ v. pin.0 == v) marks.old marks.new }
@@ -33,11 +52,7 @@ fn mark_groups(exception: &Exception, marks: &mut [bool])
 }
 
 /// Marks those of so many pins that lie in a group of an exception, and perhaps others.
-pub fn grouped_pins(
-    alloc: Global,
-    exceptions: &[Exception],
-    pins: u32,
-) -> Result<Vec<bool>, AllocError>
+fn grouped_pins(alloc: Global, exceptions: &[Exception], pins: u32) -> Result<Vec<bool>, AllocError>
     ensures size { IfOk result (λ marks. length marks.items ≡ pins) }
     ensures outside { IfOk result (λ marks. AreOutside exceptions.now marks.items) }
 {

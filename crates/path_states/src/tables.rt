@@ -1,5 +1,5 @@
 use bud_base::{ArcId, Item, PinId};
-use bud_design::Class;
+use class_steps::ClassTable;
 use indexmap::IndexSet;
 
 /// A pin in a class, which has a number in the table.
@@ -13,7 +13,7 @@ pub struct State {
 #[derive(Debug, Drop)]
 pub struct StateTable {
     /// The classes of the states.
-    pub kinds: Vec<Class>,
+    pub kinds: ClassTable,
     pub states: IndexSet<State>,
     /// The first launch that reaches each state.
     pub launches: Vec<u32>,

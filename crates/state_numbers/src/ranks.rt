@@ -109,7 +109,7 @@ fn places(alloc: Global, kinds: usize, keys: &[KindKey]) -> Result<Vec<Option<u3
 pub fn rank_kinds(alloc: Global, table: &StateTable, live: &[bool]) -> Result<Ranks, AllocError>
     requires lists { IsWithin (table_of table.now) }
     requires live { length live.now ≡ length table.now.states.keys }
-    ensures { IfOk result (λ r. AreRanked table.now.kinds.items table.now.states.keys table.now.launches.items live.now r.keys.items r.ranks.items) }
+    ensures { IfOk result (λ r. AreRanked table.now.kinds table.now.states.keys table.now.launches.items live.now r.keys.items r.ranks.items) }
 {
     let kinds = table.kinds.len();
     if kinds > u32::MAX as usize {

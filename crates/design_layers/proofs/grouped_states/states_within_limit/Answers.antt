@@ -9,7 +9,7 @@ use Rattle.design_layers.proofs.grouped_states.states_within_limit.Goals.{After-
 counted : (c : After-count_marked) → c.count_marked.result ≡ length (grouped_states c.args.all.now (table_of c.in-Ok.table))
 counted c =
     grouped-counted c.args.all.now (table_of c.in-Ok.table) c.as_slice.result.now c.as_slice-3.result.now c.as_slice-2.result.now c.count_marked.result c.in-Ok.ensures.states.lists.kinds
-    c.as_slice.ensures.value (c.as_slice-3.ensures.value ∙ c.in-Ok-grouped_kinds.ensures) c.as_slice-2.ensures.keys c.count_marked.ensures
+    c.as_slice.ensures (c.as_slice-3.ensures.value ∙ c.in-Ok-grouped_kinds.ensures) c.as_slice-2.ensures.keys c.count_marked.ensures
 
 pub returns-then-count_marked-gt-MOST_STATES : goal.returns-then-count_marked-gt-MOST_STATES
 returns-then-count_marked-gt-MOST_STATES c = (

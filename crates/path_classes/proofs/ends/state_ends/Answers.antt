@@ -13,7 +13,7 @@ pub least_ask-ask-requires-clause-launch_clock : goal.least_ask-ask-requires-cla
 least_ask-ask-requires-clause-launch_clock c =
     let t = table_of c.args.table.now in
     let below : c.loop-place.place < length c.args.table.now.states.keys = omega (arith, ap (λ (xs : List State). length xs) c.as_slice-states.ensures.keys) in
-    let k = read-class t c.as_slice-kinds.result.now c.as_slice-states.result.now c.loop-place.place c.index-kinds-state.result c.as_slice-kinds.ensures.value c.as_slice-states.ensures.keys
+    let k = read-class t c.as_slice-kinds.result.now c.as_slice-states.result.now c.loop-place.place c.index-kinds-state.result c.as_slice-kinds.ensures c.as_slice-states.ensures.keys
     c.requires.lists below c.index-kinds-state.is in
     omega (arith, ap (λ (j : Class). j.clock) k, c.requires.clocks c.loop-place.place below)
 
@@ -21,7 +21,7 @@ pub loop-place-preserved-in_default : goal.loop-place-preserved-in_default
 loop-place-preserved-in_default c =
     let t = table_of c.args.table.now in
     let below : c.loop-place.place < length c.args.table.now.states.keys = omega (arith, ap (λ (xs : List State). length xs) c.as_slice-states.ensures.keys) in
-    let k = read-class t c.as_slice-kinds.result.now c.as_slice-states.result.now c.loop-place.place c.index-kinds-state.result c.as_slice-kinds.ensures.value c.as_slice-states.ensures.keys
+    let k = read-class t c.as_slice-kinds.result.now c.as_slice-states.result.now c.loop-place.place c.index-kinds-state.result c.as_slice-kinds.ensures c.as_slice-states.ensures.keys
     c.requires.lists below c.index-kinds-state.is in
     AreStateEnds-skip c.args.all.now t c.loop-place.place c.loop-place.ends.items
     (read-asks c.args.all.now t c.as_slice-states.result.now c.loop-place.place c.index-kinds-state.result c.least_ask-ask.result None c.in_default.is c.least_ask-ask.ensures
@@ -31,7 +31,7 @@ pub loop-place-preserved : goal.loop-place-preserved
 loop-place-preserved c =
     let t = table_of c.args.table.now in
     let below : c.loop-place.place < length c.args.table.now.states.keys = omega (arith, ap (λ (xs : List State). length xs) c.as_slice-states.ensures.keys) in
-    let k = read-class t c.as_slice-kinds.result.now c.as_slice-states.result.now c.loop-place.place c.index-kinds-state.result c.as_slice-kinds.ensures.value c.as_slice-states.ensures.keys
+    let k = read-class t c.as_slice-kinds.result.now c.as_slice-states.result.now c.loop-place.place c.index-kinds-state.result c.as_slice-kinds.ensures c.as_slice-states.ensures.keys
     c.requires.lists below c.index-kinds-state.is in
     let asks = read-asks c.args.all.now t c.as_slice-states.result.now c.loop-place.place c.index-kinds-state.result c.least_ask-ask.result (Some c.in-Some.require) c.in-Some.is
     c.least_ask-ask.ensures c.as_slice-states.ensures.keys k in

@@ -49,12 +49,12 @@ pub layered_from-requires-clause-links : goal.layered_from-requires-clause-links
 layered_from-requires-clause-links c = subst (λ xs. AreLinks (map capture_item xs) c.in_ok-links.links) c.as_slice-captures.ensures c.in_ok-links.ensures.links
 
 pub layered_from-requires-clause-keys : goal.layered_from-requires-clause-keys
-layered_from-requires-clause-keys c = subst (λ ks. All (λ (x : KindKey). x.kind < length c.args.table.now.kinds.items) ks) (sym c.as_slice-keys.ensures.value) c.in_ok-ranks.ensures.kinds
+layered_from-requires-clause-keys c = subst (λ ks. All (λ (x : KindKey). x.kind < length c.args.table.now.kinds) ks) (sym c.as_slice-keys.ensures.value) c.in_ok-ranks.ensures.kinds
 
 pub layered_from-requires-clause-places : goal.layered_from-requires-clause-places
 layered_from-requires-clause-places c =
     let within = subst (λ n. PinsBelow n c.args.arcs.now c.args.all.now) (sym c.in_ok-links.ensures.pins) c.requires.pins in
-    subst (λ ks. CanLayer c.args.arcs.now c.args.all.now (length c.in_ok-links.links.first) c.args.table.now.kinds.items ks c.in_ok-places.places.nodes.items c.in_ok-places.places.items.items
+    subst (λ ks. CanLayer c.args.arcs.now c.args.all.now (length c.in_ok-links.links.first) c.args.table.now.kinds ks c.in_ok-places.places.nodes.items c.in_ok-places.places.items.items
     c.in_ok-places.places.starts.items) (sym c.as_slice-keys.ensures.value)
     (CanLayer-of c.args.arcs.now c.args.all.now (table_of c.args.table.now) c.requires.explored (length c.in_ok-links.links.first) within c.requires.clocks c.as_slice-marks.result.now
     c.in_ok-ranks.ranks.keys.items c.in_ok-ranks.ranks.ranks.items c.in_ok-ranks.ensures c.in_ok-places.places.nodes.items c.in_ok-places.places.items.items c.in_ok-places.places.starts.items
@@ -65,10 +65,10 @@ returns c =
     let t = table_of c.args.table.now in
     let ranks = c.in_ok-ranks.ranks in
     let places = c.in_ok-places.places in
-    let ranked = subst (λ ms. AreRanked c.args.table.now.kinds.items c.args.table.now.states.keys c.args.table.now.launches.items ms ranks.keys.items ranks.ranks.items)
+    let ranked = subst (λ ms. AreRanked c.args.table.now.kinds c.args.table.now.states.keys c.args.table.now.launches.items ms ranks.keys.items ranks.ranks.items)
     c.as_slice-marks.ensures.value c.in_ok-ranks.ensures in
     let placed = subst (λ ms. ArePlaces c.args.all.now t ms ranks.ranks.items places.nodes.items places.items.items places.starts.items) c.as_slice-marks.ensures.value c.in_ok-places.ensures in
-    let layered = subst (λ ks. IsLayeredFrom c.args.arcs.now c.args.all.now c.args.table.now.kinds.items ks places.nodes.items places.items.items places.starts.items c.in_ok-layered.layered)
+    let layered = subst (λ ks. IsLayeredFrom c.args.arcs.now c.args.all.now c.args.table.now.kinds ks places.nodes.items places.items.items places.starts.items c.in_ok-layered.layered)
     c.as_slice-keys.ensures.value c.in_ok-layered.ensures in
     record {
       parts = record {

@@ -13,7 +13,7 @@ use Rattle.path_classes.proofs.LayeredParts.{layered-same}
 use Rattle.path_classes.proofs.layering.layered_from.Goals as goal
 
 pub live_classes-requires : goal.live_classes-requires
-live_classes-requires c = subst (λ ks. All (λ (x : KindKey). x.kind < length ks) c.args.keys.now) (sym c.as_slice-kinds.ensures.value) c.requires.keys
+live_classes-requires c = subst (λ ks. All (λ (x : KindKey). x.kind < length ks) c.args.keys.now) (sym c.as_slice-kinds.ensures) c.requires.keys
 
 pub problem_ends-requires-clause-pins : goal.problem_ends-requires-clause-pins
 problem_ends-requires-clause-pins c = subst (λ xs. All (λ (x : Placed). x.number < length c.args.links.now.first) xs) (sym c.as_slice-nodes.ensures.value) c.requires.places.pins_below
@@ -27,7 +27,7 @@ problem_ends-requires-clause-classes c =
 
 pub problem_ends-requires-clause-clocks : goal.problem_ends-requires-clause-clocks
 problem_ends-requires-clause-clocks c =
-    subst (HasClocks c.args.all.now) (sym (c.as_slice-order.ensures.value ∙ (c.in_ok-classes.ensures ∙ ap (λ ks. classes_of ks c.args.keys.now) c.as_slice-kinds.ensures.value))) c.requires.places.clocks
+    subst (HasClocks c.args.all.now) (sym (c.as_slice-order.ensures.value ∙ (c.in_ok-classes.ensures ∙ ap (λ ks. classes_of ks c.args.keys.now) c.as_slice-kinds.ensures))) c.requires.places.clocks
 
 pub problem_items-requires-clause-rising : goal.problem_items-requires-clause-rising
 problem_items-requires-clause-rising c = subst AreRising (sym c.as_slice-nodes.ensures.value) c.requires.places.rising
@@ -42,7 +42,7 @@ problem_starts-requires c =
 
 pub returns : goal.returns
 returns c =
-    let kinds = c.in_ok-classes.ensures ∙ ap (λ ks. classes_of ks c.args.keys.now) c.as_slice-kinds.ensures.value in
+    let kinds = c.in_ok-classes.ensures ∙ ap (λ ks. classes_of ks c.args.keys.now) c.as_slice-kinds.ensures in
     let order = c.as_slice-order.ensures.value ∙ kinds in
     let nodes = c.as_slice-nodes.ensures.value in
     let items = c.as_slice-items.ensures.value in

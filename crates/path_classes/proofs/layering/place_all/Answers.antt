@@ -8,21 +8,20 @@ use Rattle.path_classes.proofs.layering.place_all.Goals as goal
 
 pub place_starts-requires-clause-ranks : goal.place_starts-requires-clause-ranks
 place_starts-requires-clause-ranks c =
-    omega (arith, ap (λ (xs : List (Option ℕ)). length xs) c.as_slice-places.ensures.value, ap (λ (xs : List Class). length xs) c.as_slice-kinds.ensures.value, c.requires.ranked.size)
+    omega (arith, ap (λ (xs : List (Option ℕ)). length xs) c.as_slice-places.ensures.value, c.requires.ranked.size)
 
 pub place_starts-requires-clause-rising : goal.place_starts-requires-clause-rising
 place_starts-requires-clause-rising c = subst AreRising (sym c.as_slice-order.ensures.value) c.in_ok-nodes.ensures.rising
 
 pub place_starts-requires-clause-kinds : goal.place_starts-requires-clause-kinds
-place_starts-requires-clause-kinds c = subst AreDifferent (sym c.as_slice-kinds.ensures.value) c.requires.lists.different
+place_starts-requires-clause-kinds c = c.requires.lists.different
 
 pub returns : goal.returns
 returns c =
     let t = table_of c.args.table.now in
-    let begun = subst (λ ks. AreStarts c.args.all.now ks c.args.ranks.now.ranks.items c.in_ok-nodes.nodes.items (length c.args.all.now.launches) c.in_ok-begun.begun.items) c.as_slice-kinds.ensures.value
-    (subst (λ rs. AreStarts c.args.all.now c.as_slice-kinds.result.now rs c.in_ok-nodes.nodes.items (length c.args.all.now.launches) c.in_ok-begun.begun.items) c.as_slice-places.ensures.value
-    (subst (λ ns. AreStarts c.args.all.now c.as_slice-kinds.result.now c.as_slice-places.result.now ns (length c.args.all.now.launches) c.in_ok-begun.begun.items) c.as_slice-order.ensures.value
-    c.in_ok-begun.ensures)) in
+    let begun = subst (λ rs. AreStarts c.args.all.now c.args.table.now.kinds rs c.in_ok-nodes.nodes.items (length c.args.all.now.launches) c.in_ok-begun.begun.items) c.as_slice-places.ensures.value
+    (subst (λ ns. AreStarts c.args.all.now c.args.table.now.kinds c.as_slice-places.result.now ns (length c.args.all.now.launches) c.in_ok-begun.begun.items) c.as_slice-order.ensures.value
+    c.in_ok-begun.ensures) in
     record {
       nodes_are = AreNodes-sorted t c.args.live.now c.args.ranks.now.ranks.items (length c.args.table.now.states.keys) c.in_ok-found.found.items c.in_ok-nodes.nodes.items
           c.in_ok-nodes.ensures.permutation c.in_ok-found.ensures;
@@ -30,7 +29,7 @@ returns c =
       items_are = AreItems-sorted t c.args.live.now c.args.ranks.now.ranks.items (length c.args.table.now.edges.items) c.in_ok-edges.edges.items c.in_ok-items.items.items
           c.in_ok-items.ensures.permutation c.in_ok-edges.ensures;
       items_rise = c.in_ok-items.ensures.rising;
-      starts_are = AreStarts-sorted c.args.all.now c.args.table.now.kinds.items c.args.ranks.now.ranks.items c.in_ok-nodes.nodes.items (length c.args.all.now.launches) c.in_ok-begun.begun.items
+      starts_are = AreStarts-sorted c.args.all.now c.args.table.now.kinds c.args.ranks.now.ranks.items c.in_ok-nodes.nodes.items (length c.args.all.now.launches) c.in_ok-begun.begun.items
           c.in_ok-starts.starts.items c.in_ok-starts.ensures.permutation begun;
       starts_rise = c.in_ok-starts.ensures.rising;
     }

@@ -1,0 +1,4 @@
+pub mod Bools
+pub mod ChainSteps
+pub mod NoteSteps
+pub mod MetSteps

@@ -1,0 +1,4 @@
+pub mod Launches
+pub mod Turns
+pub mod Lists
+pub mod Classes
