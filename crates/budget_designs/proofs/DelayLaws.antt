@@ -1,17 +1,15 @@
 -- A delay file gives a design one timing, or is refused, and not both.
-use Rattle.std.proofs.Common.{◌≡◌, ℕ, ℤ, List, ◌∷◌, ◌++◌, length, All, Some, None, Ok, Err, ap, sym, ◌∙◌, subst, refl}
+use Rattle.std.proofs.Common.{◌≡◌, ℕ, ℤ, List, ◌∷◌, ◌++◌, length, All, Some, Err, ap, sym, ◌∙◌, subst}
 use Rattle.std.proofs.Math.Seq.{drop-append_seam}
 use Rattle.std.proofs.lemmas.List.Elements.{All-head, All-drop}
 use Rattle.bud_syntax.specs.declared.delays.SdfRow.{SdfRow}
-use Rattle.bud_syntax.specs.declared.delays.SdfKind.{SdfKind}
 use Rattle.bud_design.specs.declared.designs.Wire.{Wire}
-use Rattle.bud_design.specs.declared.timings.Pair.{Pair}
 use Rattle.bud_design.specs.declared.timings.Timing.{Timing}
 use Rattle.bud_design.specs.Designs.{Design}
 use Rattle.bud_design.specs.DesignRules.{IsDesign}
 use Rattle.timing_laws.proofs.OneTables.{pairs-same}
 use Rattle.net_delays.specs.Nets.{HasNegativeRest}
-use Rattle.delay_bind.specs.Rows.{IsAcceptedRow, IsFirstRefused, IsJoined, IsNetFault, IsRowFault, name_fault}
+use Rattle.delay_bind.specs.Rows.{IsAcceptedRow, IsFirstRefused, IsJoined, IsNetFault, IsRowFault}
 use Rattle.delay_bind.specs.Entries.{entries_of}
 use Rattle.delay_bind.specs.Bindings.{IsBound, IsBindAnswer, IsRegisterFault, IsNegativeDelay, IsNegativeRest, negative_pair}
 use Rattle.delay_bind.specs.declared.faults.BindFault.{BindFault}

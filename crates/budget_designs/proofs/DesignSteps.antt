@@ -1,5 +1,5 @@
 -- Each step on a design has one value, or is refused, and not both.
-use Rattle.std.proofs.Common.{◌≡◌, ◌⊎◌, ℕ, ◌<◌, List, [], ◌∷◌, length, map, All, Option, Some, None, Result, Ok, Err, ap, sym, ◌∙◌, subst, refl, nat_lt}
+use Rattle.std.proofs.Common.{◌≡◌, ℕ, List, [], ◌∷◌, map, All, Option, Result, Ok, Err, ap, sym, ◌∙◌, subst, refl, nat_lt}
 use Rattle.std.proofs.lemmas.List.Elements.{All-nil, All-cons}
 use Rattle.bud_base.specs.declared.ids.ArcId.{ArcId}
 use Rattle.bud_syntax.specs.declared.modules.Module.{Module}
@@ -7,7 +7,7 @@ use Rattle.bud_syntax.specs.declared.constraints.SdcCommand.{SdcCommand}
 use Rattle.bud_design.specs.declared.clocks.Constraints.{Constraints}
 use Rattle.bud_design.specs.declared.policies.NumberedCommand.{NumberedCommand}
 use Rattle.bud_design.specs.declared.timings.Timing.{Timing}
-use Rattle.bud_design.specs.Arcs.{Arc, Graph, arc_at, Leads, IsArcCycle}
+use Rattle.bud_design.specs.Arcs.{Arc, arc_at, Leads, IsArcCycle}
 use Rattle.bud_design.specs.Designs.{Design}
 use Rattle.bud_design.specs.DesignRules.{IsDesign}
 use Rattle.bud_design.specs.Lists.{Lists}
@@ -19,8 +19,7 @@ use Rattle.module_nets.specs.declared.faults.ElabFault.TheVariants as elab
 use Rattle.elaborations.specs.Elaborations.{Built, elaborated as built_of, IsElaborateAnswer}
 use Rattle.elaborations.proofs.OneDesign.{one_design}
 use Rattle.timing_laws.proofs.OneTables.{launches-same, captures-same, pins-same, Constraints-same}
-use Rattle.timing_graph.specs.Graphs.{AreArcs, IsGraph, IsCycleOf, IsArcsAnswer, pins_of_arc}
-use Rattle.timing_graph.specs.declared.faults.PinPair.{PinPair}
+use Rattle.timing_graph.specs.Graphs.{IsArcsAnswer, pins_of_arc}
 use Rattle.timing_graph.specs.declared.faults.GraphFault.{GraphFault}
 use Rattle.timing_graph.specs.declared.faults.GraphFault.TheVariants as graph
 use Rattle.timing_graph.proofs.ArcLists.{AreArcs-sound}
@@ -31,7 +30,6 @@ use Rattle.timing_objects.specs.declared.faults.ResolveFault.TheVariants as reso
 use Rattle.timing_scopes.specs.Resolving.{resolved}
 use Rattle.timing_scopes.specs.declared.scopes.Scope.{Scope}
 use Rattle.requirements.specs.Constraining.{AreConstraints, IsLaunch, IsCapture, IsUnclocked, IsResolveAnswer}
-use Rattle.layer_theory.specs.LayerAnswers.{HasManyStates, HasManyItems}
 use Rattle.layer_theory.specs.declared.refusals.LayerFault.{LayerFault}
 use Rattle.layer_theory.specs.declared.refusals.LayerFault.TheVariants as layer
 use Rattle.budget_report.specs.declared.statuses.Status.{Status}

@@ -1,5 +1,5 @@
 -- The text of a path of a layered problem is that of the constrained path that it stands for.
-use Rattle.std.specs.Prelude.{◌≡◌, ℕ, suc, ◌<◌, nat_lt, ℤ, ◌+ℤ◌, ◌-ℤ◌, true, List, [], ◌∷◌, ◌++◌, codes, map, length, All, AllPairs, slice_index_or}
+use Rattle.std.specs.Prelude.{◌≡◌, ℕ, suc, ◌<◌, nat_lt, ℤ, ◌+ℤ◌, true, List, [], ◌∷◌, ◌++◌, codes, map, length, All, AllPairs}
 use Rattle.std.proofs.Common.{refl, sym, ◌∙◌, ap, subst, arith, append_assoc, true≢false}
 use Rattle.std.proofs.lemmas.Int.{ints}
 use Rattle.std.proofs.lemmas.List.{get_or_default, append-nil}
@@ -11,7 +11,7 @@ use Rattle.bud_base.specs.declared.problems.Start.{Start}
 use Rattle.bud_design.specs.Arcs.{arc_at}
 use Rattle.bud_design.specs.Correspondences.{arc_of_item, StandsFor}
 use Rattle.bud_design.specs.Exceptions.{class_at}
-use Rattle.bud_design.specs.Layers.{class_behind, class_number, walk_of, Stands, IsLayering, IsLayerNode}
+use Rattle.bud_design.specs.Layers.{class_behind, class_number, Stands, IsLayering}
 use Rattle.bud_design.specs.Orders.{launch_before, stands_before}
 use Rattle.bud_design.specs.TimingPaths.{View, TimingPath, launch_at, path_start, last_pin}
 use Rattle.bud_syntax.specs.declared.edges.Edge.{Edge}
@@ -22,7 +22,6 @@ use Rattle.bud_design.specs.declared.layers.LayerNode.{LayerNode}
 use Rattle.bud_design.specs.declared.layers.Layered.{Layered}
 use Rattle.bud_design.specs.declared.policies.Policy.{Policy}
 use Rattle.bud_design.proofs.NodeLaws as nodes
-use Rattle.layer_theory.proofs.LayerPaths as paths
 use Rattle.layer_theory.proofs.LayerPlaces as places
 use Rattle.budget_report.specs.DesignPaths.{node_at, pin_of, class_of_node, item_classes, path_classes, item_line, item_lines, arc_line, pin_line, start_line, end_line, slack_line, class_lines, layered_text}
 use Rattle.budget_designs.specs.Slacks.{number_at, IsNumbered, AreNumbered, arc_lines, violated_text}

@@ -2,6 +2,7 @@ pub mod ReadFiles
 pub mod DesignFaults
 pub mod DelayLaws
 pub mod DesignSteps
+pub mod TimedLaws
 pub mod LayerTexts
 pub mod Measures
 pub mod Numbers

@@ -1,8 +1,8 @@
 -- The answer by the layering is the answer over the design's constrained paths; and a design has one status.
-use Rattle.std.specs.Prelude.{ℤ, pos, ◌≤ℤ◌, ◌<ℤ◌, ◌-ℤ◌, nat_lt, true, length}
-use Rattle.std.proofs.Common.{◌≡◌, ℕ, List, Option, Result, Ok, Err, All, AllPairs, arith, ap, sym, ◌∙◌, subst, inl, inr, refl}
+use Rattle.std.specs.Prelude.{ℤ, pos, ◌≤ℤ◌, ◌<ℤ◌, ◌-ℤ◌, nat_lt, true}
+use Rattle.std.proofs.Common.{◌≡◌, ℕ, List, Result, Ok, Err, All, AllPairs, arith, ap, sym, ◌∙◌, subst, inl, inr, refl}
 use Rattle.std.proofs.lemmas.Int.{ints}
-use Rattle.bud_base.specs.Paths.{Path, IsPath, IsPathOfSlack, IsLeastSlack, HasNoPath, room}
+use Rattle.bud_base.specs.Paths.{Path, IsPathOfSlack, IsLeastSlack, HasNoPath, room}
 use Rattle.bud_design.specs.Designs.{Design}
 use Rattle.bud_design.specs.declared.clocks.Constraints.{Constraints}
 use Rattle.budget_report.specs.Violations.{meets_text, no_paths_text}
@@ -10,7 +10,7 @@ use Rattle.bud_design.specs.ConstraintRules.{AreSoundConstraints}
 use Rattle.bud_design.specs.Correspondences.{Correspond, StandsFor}
 use Rattle.bud_design.specs.Orders.{launch_before}
 use Rattle.bud_design.specs.Layers.{IsLayering}
-use Rattle.bud_design.specs.TimingPaths.{View, TimingPath, IsConstrained, HasSlack, IsLeastPathSlack}
+use Rattle.bud_design.specs.TimingPaths.{View, TimingPath, IsConstrained, HasSlack}
 use Rattle.bud_design.specs.declared.layers.Layered.{Layered}
 use Rattle.bud_design.specs.declared.policies.Policy.{Policy}
 use Rattle.layer_theory.proofs.LayerPaths as paths
@@ -23,14 +23,14 @@ use Rattle.layer_theory.specs.declared.refusals.LayerFault.{LayerFault}
 use Rattle.layer_theory.specs.declared.refusals.LayerFault.TheVariants.{UnknownArc, UnknownInstance, NestedBlocks, UnknownClock, TooManyStates, TooManyItems, NoMemory}
 use Rattle.budget_report.specs.declared.causes.Cause.TheVariants.{Layer}
 use Rattle.budget_report.specs.Subjects.{bare}
-use Rattle.budget_steps.specs.Outcomes.{Refusal, Outcome, said_of, done}
+use Rattle.budget_steps.specs.Outcomes.{Outcome, said_of, done}
 use Rattle.budget_steps.specs.Steps.{Follows, IsRefused}
 use Rattle.budget_steps.specs.declared.outcomes.Answer.{Answer}
 use Rattle.budget_steps.specs.declared.outcomes.Stop.{Stop}
 use Rattle.budget_steps.proofs.Courses.{Within, Alike, follows_next, follows_within, follows_first, step_refused}
 use Rattle.budget_designs.specs.Designs.{IsWithinLimits, within_limits}
 use Rattle.budget_steps.proofs.JobLaws.{SameStatus}
-use Rattle.budget_designs.specs.Slacks.{HasNoConstrainedPath, IsPathText, IsMeasured, measured, least_of}
+use Rattle.budget_designs.specs.Slacks.{IsPathText, IsMeasured, measured, least_of}
 use Rattle.budget_designs.specs.Layerings.{IsLayeredMeasure, layer_measured}
 use Rattle.budget_designs.proofs.LayerTexts as texts
 
@@ -102,11 +102,11 @@ layer_met layered d all a s e least meets = subst (λ (x : Answer). layer_measur
 
 -- ---- one status
 -- what the constrained paths of a design say
-data Measure (w : View) : Status → Type 0 where
+pub data Measure (w : View) : Status → Type 0 where
   meets : ((path : TimingPath) (s : ℤ) → HasSlack w path s → pos 0 ≤ℤ s) → Measure w Done
   violated : (path : TimingPath) (s : ℤ) → HasSlack w path s → s <ℤ pos 0 → Measure w Violated
 
-measure_of : (w : View) (status : Status) (text : List ℕ) → IsMeasured w status text → Measure w status
+pub measure_of : (w : View) (status : Status) (text : List ℕ) → IsMeasured w status text → Measure w status
 measure_of w Done text m = meets (elim m [
   | inl none ↦ λ path s has. absurd (none.0 path has.room has.constrained)
   | inr least ↦ λ path s has. (let more = least.1.0.least path s has in omega (arith, ints, more, least.1.1))
@@ -114,7 +114,7 @@ measure_of w Done text m = meets (elim m [
 measure_of w Violated text m = violated m.1.0.attained.0 m.0 m.1.0.attained.1 m.1.1
 measure_of w other text m = absurd m
 
-one_measure : (w : View) (a b : Status) → Measure w a → Measure w b → a ≡ b
+pub one_measure : (w : View) (a b : Status) → Measure w a → Measure w b → a ≡ b
 one_measure w _ _ (meets h) (meets h') = refl
 one_measure w _ _ (meets h) (violated path s has below) = (let more = h path s has in absurd (omega (arith, ints, more, below)))
 one_measure w _ _ (violated path s has below) (meets h) = (let more = h path s has in absurd (omega (arith, ints, more, below)))
@@ -125,7 +125,7 @@ measured_alike w (Ok a) (Ok b) x y = inl (one_measure w a.said.status b.said.sta
 measured_alike w (Ok a) (Err s) x y = absurd y
 measured_alike w (Err r) y' x y = absurd x
 
-measure_fits : (w : View) (status : Status) → Measure w status → status ≡ Words → ⊥
+pub measure_fits : (w : View) (status : Status) → Measure w status → status ≡ Words → ⊥
 measure_fits w _ (meets h) e = cc
 measure_fits w _ (violated path s has below) e = cc
 

@@ -1,5 +1,5 @@
 -- Numbered commands.
-use Rattle.std.proofs.Common.{◌≡◌, ℕ, suc, ◌<◌, ◌≤◌, ◌+◌, List, [], ◌∷◌, ◌++◌, length, All, AllPairs, arith, ap, sym, ◌∙◌, subst, refl, slice_index_or, zero, Result, Ok, Err, IfOk, length-append}
+use Rattle.std.proofs.Common.{◌≡◌, ℕ, suc, ◌<◌, ◌+◌, List, [], ◌∷◌, ◌++◌, length, All, arith, ap, sym, ◌∙◌, subst, refl, slice_index_or, zero, Result, Ok, Err, IfOk, length-append}
 use Rattle.std.specs.declared.alloc.AllocError.{AllocError}
 use Rattle.std.proofs.lemmas.List.Elements.{All-nil, All-cons, All-head}
 use Rattle.bud_syntax.specs.Ranges.{IsReadCommand}

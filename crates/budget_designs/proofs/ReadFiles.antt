@@ -1,5 +1,5 @@
 -- The files of a design have one value each, or are refused; and what is known of their values.
-use Rattle.std.proofs.Common.{◌≡◌, ℕ, ◌<◌, ◌≤◌, List, length, All, Option, Some, None, Result, Ok, Err, IfOk, arith, ap, sym, ◌∙◌, refl}
+use Rattle.std.proofs.Common.{◌≡◌, ℕ, ◌≤◌, List, length, All, None, Result, Ok, Err, IfOk, arith, sym, ◌∙◌, refl}
 use Rattle.bud_shelf.specs.Outside.{longest_file}
 use Rattle.bud_syntax.specs.Ranges.{IsReadKind}
 use Rattle.bud_syntax.specs.declared.modules.Module.{Module}

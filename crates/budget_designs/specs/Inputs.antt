@@ -1,5 +1,5 @@
 -- What is known of each file of a design that is read.
-use Rattle.std.specs.Prelude.{ℕ, ◌<◌, List, length, All}
+use Rattle.std.specs.Prelude.{◌<◌, List, length, All}
 use Rattle.bud_syntax.specs.Ranges.{IsReadKind, IsReadCommand}
 use Rattle.bud_syntax.specs.declared.modules.Module.{Module}
 use Rattle.bud_syntax.specs.declared.delays.SdfFile.{SdfFile}

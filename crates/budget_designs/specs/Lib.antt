@@ -1,6 +1,8 @@
 pub mod Files
+pub mod Inputs
+pub mod DesignFiles
 pub mod Designs
+pub mod TimedDesigns
 pub mod Slacks
 pub mod Jobs
-pub mod Inputs
 pub mod Layerings

@@ -1,5 +1,5 @@
 -- The least slack of a design over all its constrained paths, and what is printed of it.
-use Rattle.std.specs.Prelude.{◌≡◌, ◌⊎◌, ℕ, suc, ◌<◌, ℤ, pos, ◌+ℤ◌, ◌-ℤ◌, ◌≤ℤ◌, ◌<ℤ◌, List, [], ◌∷◌, ◌++◌, codes, length, slice_index_or, Result, Ok, Err}
+use Rattle.std.specs.Prelude.{◌≡◌, ◌⊎◌, ℕ, suc, ◌<◌, ℤ, pos, ◌+ℤ◌, ◌-ℤ◌, ◌≤ℤ◌, ◌<ℤ◌, List, [], ◌∷◌, ◌++◌, codes, length, slice_index_or, Ok, Err}
 use Rattle.bud_base.specs.declared.ids.ArcId.{ArcId}
 use Rattle.bud_design.specs.declared.layers.Class.{Class}
 use Rattle.bud_design.specs.Arcs.{arc_at}
@@ -10,7 +10,7 @@ use Rattle.budget_report.specs.declared.statuses.Status.TheVariants.{Done, Viola
 use Rattle.budget_report.specs.DesignPaths.{slack_line, class_lines, pin_line, arc_line}
 use Rattle.budget_report.specs.Violations.{meets_text, no_paths_text}
 use Rattle.budget_steps.specs.declared.outcomes.Answer.{Answer}
-use Rattle.budget_steps.specs.Steps.{Course, ◌>>=◌, ◌>>◌}
+use Rattle.budget_steps.specs.Steps.{Course, ◌>>◌}
 use Rattle.budget_designs.specs.Designs.{within_limits}
 
 abbrev pub HasNoConstrainedPath : View → Type 0

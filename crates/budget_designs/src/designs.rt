@@ -34,7 +34,7 @@ pub fn top_name(design: &Option<Text>) -> Option<&[u8]>
 }
 
 /// What every flat design keeps.
-fn keep(flat: &Flat)
+pub fn keep(flat: &Flat)
     ensures { IsFlat flat.now }
 {
     let _pins = flat.pins();

@@ -1,5 +1,4 @@
-use Rattle.std.proofs.Common.{length, ap, arith, sym, ◌∙◌}
-use Rattle.bud_design.specs.declared.policies.NumberedCommand.{NumberedCommand}
+use Rattle.std.proofs.Common.{ap, ◌∙◌}
 use Rattle.std.proofs.Common.{ℕ, suc}
 use Rattle.budget_designs.proofs.Numbers.{numbers_on, numbers_few}
 use Rattle.budget_designs.proofs.designs.numbers.Goals as goal

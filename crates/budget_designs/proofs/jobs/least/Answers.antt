@@ -1,54 +1,18 @@
-use Rattle.std.proofs.Common.{Err, arith, ◌∙◌}
-use Rattle.budget_steps.specs.Inputs.{seen, input}
-use Rattle.budget_steps.specs.Steps.{◌>>=◌}
-use Rattle.budget_steps.proofs.Courses.{follows_next, follows_exit}
-use Rattle.budget_steps.proofs.FileLaws.{IsDuring, reads_first, reads_next}
-use Rattle.budget_designs.specs.Files.{netlists, delay_files, constraint_files}
+use Rattle.budget_steps.specs.Inputs.{seen}
+use Rattle.budget_steps.proofs.Courses.{follows_first, follows_next, follows_exit}
+use Rattle.budget_designs.specs.DesignFiles.{design_files}
 use Rattle.budget_designs.specs.Jobs.{least_in, least_job}
 use Rattle.budget_designs.proofs.jobs.least.Goals as goal
 
-pub returns-in_err-delays-clause-course : goal.returns-in_err-delays-clause-course
-returns-in_err-delays-clause-course g c =
-    let shelf = seen g.S.Shelf.files g.S.Shelf.faults c.args.shelf.now c.load-2.new.shelf in
-    let second = seen g.S.Shelf.files g.S.Shelf.faults c.load.new.shelf c.load-2.new.shelf in
-    let during : IsDuring second shelf = record { files = c.load.ensures.files; before = c.load.ensures.later; now = omega arith } in
-    let modules = c.in_ok-modules.modules in
-    let stop = c.in_err-delays.field-0.0 in
-    follows_exit (least_job shelf c.args.netlist.now c.args.delays.now c.args.constraints.now) c.from_residual-in_err-delays.result stop c.from_residual-in_err-delays.ensures.1
-    (follows_next (input shelf netlists c.args.netlist.now)
-    (λ m. input shelf delay_files c.args.delays.now >>= λ v. input shelf constraint_files c.args.constraints.now >>= λ k. least_in m v k) modules (Err stop)
-    c.in_ok-modules.ensures.input
-    (reads_first delay_files c.args.delays.now second shelf (λ v. input shelf constraint_files c.args.constraints.now >>= λ k. least_in modules v k) stop during c.in_err-delays.ensures.input))
-
-pub returns-in_err-constraints-clause-course : goal.returns-in_err-constraints-clause-course
-returns-in_err-constraints-clause-course g c =
-    let shelf = seen g.S.Shelf.files g.S.Shelf.faults c.args.shelf.now c.load-3.new.shelf in
-    let second = seen g.S.Shelf.files g.S.Shelf.faults c.load.new.shelf c.load-2.new.shelf in
-    let third = seen g.S.Shelf.files g.S.Shelf.faults c.load-2.new.shelf c.load-3.new.shelf in
-    let during : IsDuring second shelf = record { files = c.load.ensures.files; before = c.load.ensures.later; now = c.load-3.ensures.later } in
-    let behind : IsDuring third shelf = record { files = c.load-2.ensures.files ∙ c.load.ensures.files; before = omega (arith, c.load.ensures.later, c.load-2.ensures.later); now = omega arith } in
-    let modules = c.in_ok-modules.modules in
-    let delays = c.in_ok-delays.delays in
-    let stop = c.in_err-constraints.field-0.0 in
-    follows_exit (least_job shelf c.args.netlist.now c.args.delays.now c.args.constraints.now) c.from_residual-in_err-constraints.result stop c.from_residual-in_err-constraints.ensures.1
-    (follows_next (input shelf netlists c.args.netlist.now)
-    (λ m. input shelf delay_files c.args.delays.now >>= λ v. input shelf constraint_files c.args.constraints.now >>= λ k. least_in m v k) modules (Err stop)
-    c.in_ok-modules.ensures.input
-    (reads_next delay_files c.args.delays.now second shelf (λ v. input shelf constraint_files c.args.constraints.now >>= λ k. least_in modules v k) delays (Err stop) during c.in_ok-delays.ensures.input
-    (reads_first constraint_files c.args.constraints.now third shelf (λ k. least_in modules delays k) stop behind c.in_err-constraints.ensures.input)))
+pub returns-in_err-files-clause-course : goal.returns-in_err-files-clause-course
+returns-in_err-files-clause-course g c =
+    let shelf = seen g.S.Shelf.files g.S.Shelf.faults c.args.shelf.now c.load_design.new.shelf in
+    let stop = c.in_err-files.field-0.0 in
+    follows_exit (least_job shelf c.args.netlist.now c.args.delays.now c.args.constraints.now) c.from_residual.result stop c.from_residual.ensures.1
+    (follows_first (design_files shelf c.args.netlist.now c.args.delays.now c.args.constraints.now) least_in stop c.in_err-files.ensures.course)
 
 pub returns-clause-course : goal.returns-clause-course
 returns-clause-course g c =
-    let shelf = seen g.S.Shelf.files g.S.Shelf.faults c.args.shelf.now c.load-3.new.shelf in
-    let second = seen g.S.Shelf.files g.S.Shelf.faults c.load.new.shelf c.load-2.new.shelf in
-    let third = seen g.S.Shelf.files g.S.Shelf.faults c.load-2.new.shelf c.load-3.new.shelf in
-    let during : IsDuring second shelf = record { files = c.load.ensures.files; before = c.load.ensures.later; now = c.load-3.ensures.later } in
-    let behind : IsDuring third shelf = record { files = c.load-2.ensures.files ∙ c.load.ensures.files; before = omega (arith, c.load.ensures.later, c.load-2.ensures.later); now = omega arith } in
-    let modules = c.in_ok-modules.modules in
-    let delays = c.in_ok-delays.delays in
-    let constraints = c.in_ok-constraints.constraints in
-    follows_next (input shelf netlists c.args.netlist.now)
-    (λ m. input shelf delay_files c.args.delays.now >>= λ v. input shelf constraint_files c.args.constraints.now >>= λ k. least_in m v k) modules c.least_in.result
-    c.in_ok-modules.ensures.input
-    (reads_next delay_files c.args.delays.now second shelf (λ v. input shelf constraint_files c.args.constraints.now >>= λ k. least_in modules v k) delays c.least_in.result during c.in_ok-delays.ensures.input
-    (reads_next constraint_files c.args.constraints.now third shelf (λ k. least_in modules delays k) constraints c.least_in.result behind c.in_ok-constraints.ensures.input c.least_in.ensures))
+    let shelf = seen g.S.Shelf.files g.S.Shelf.faults c.args.shelf.now c.load_design.new.shelf in
+    follows_next (design_files shelf c.args.netlist.now c.args.delays.now c.args.constraints.now) least_in c.in_ok-files.files c.least_in.result
+    c.in_ok-files.ensures.course c.least_in.ensures
