@@ -1,0 +1,9 @@
+pub mod Fields
+pub mod TextNames
+pub mod LayerSteps
+pub mod PolicyFiles
+pub mod LaidOut
+pub mod Measures
+pub mod CertifiedPlans
+pub mod VerdictLaws
+pub mod JobLaws
