@@ -1,0 +1,4 @@
+pub mod WordLemmas
+pub mod OwnLayouts
+pub mod Mades
+pub mod MakeLaws

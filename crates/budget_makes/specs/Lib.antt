@@ -1,0 +1,4 @@
+pub mod Words
+pub mod OwnFiles
+pub mod Makes
+pub mod Jobs
