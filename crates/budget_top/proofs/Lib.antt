@@ -4,5 +4,7 @@ pub mod Soundnesses
 pub mod Measures
 pub mod Verdicts
 pub mod CertifiedPlans
+pub mod KeptFiles
 pub mod JobCourses
+pub mod BestBudgets
 pub mod RunLaws

@@ -1,4 +1,4 @@
--- The texts of raw problems and of certificates have one value each, or are refused.
+-- The text of a raw problem has one value, or is refused.
 use Rattle.std.proofs.Common.{◌≡◌, ℕ, List, None, Ok, Err, sym, ◌∙◌, refl}
 use Rattle.line_text.specs.Parts.{rows_of}
 use Rattle.bud_base.specs.declared.problems.Problem.{Problem}
@@ -6,14 +6,11 @@ use Rattle.bud_base.specs.declared.texts.TextFault.{TextFault}
 use Rattle.bud_base.specs.declared.texts.TextFault.TheVariants.{Syntax, Value as OutOfRange, NoMemory as TextMemory}
 use Rattle.budget_report.specs.declared.statuses.Status.TheVariants.{Refused, Words}
 use Rattle.budget_report.specs.Readings.{text_status}
-use Rattle.cert_text.specs.declared.certs.Cert.{Cert}
-use Rattle.cert_text.specs.Texts.{IsReadAnswer as IsCertAnswer}
-use Rattle.cert_text.proofs.CertificateLaws.{answer_reads as cert_reads, one_reading as one_cert}
 use Rattle.problem_text.specs.Problems.{IsReadAnswer as IsProblemAnswer}
 use Rattle.problem_text.proofs.ProblemLaws.{answer_reads as problem_reads, one_reading as one_problem}
 use Rattle.budget_steps.specs.Steps.{IsCause}
 use Rattle.budget_steps.proofs.FileLaws.{IsGrammar}
-use Rattle.budget_top.specs.RawFiles.{problems, certificates}
+use Rattle.budget_top.specs.RawFiles.{problems}
 
 refused_text : (fault : TextFault) → IsCause (text_status fault) → text_status fault ≡ Refused
 refused_text (Syntax at) is = refl
@@ -35,21 +32,6 @@ problems_are = record {
   sure = λ name bytes. record {
     one = λ a b first second. (one_problem (rows_of bytes) a b None None first second).0;
     apart = problem_apart bytes;
-    status = λ f g is is' x y. refused_text f is ∙ sym (refused_text g is');
-  };
-  fits = λ name fault e. fitting_text fault e;
-}
-
-cert_apart : (bytes : List ℕ) (c : Cert) (fault : TextFault) → IsCause (text_status fault) → IsCertAnswer bytes (Ok c) → IsCertAnswer bytes (Err fault) → ⊥
-cert_apart bytes c (Syntax at) is reads refused = refused c None reads
-cert_apart bytes c (OutOfRange at) is reads refused = let e = cert_reads bytes c (Err (OutOfRange at)) refused reads in cc
-cert_apart bytes c TextMemory is reads refused = absurd is
-
-pub certificates_are : IsGrammar certificates
-certificates_are = record {
-  sure = λ name bytes. record {
-    one = λ a b first second. (one_cert (rows_of bytes) a b None None first second).0;
-    apart = cert_apart bytes;
     status = λ f g is is' x y. refused_text f is ∙ sym (refused_text g is');
   };
   fits = λ name fault e. fitting_text fault e;

@@ -1,7 +1,5 @@
 -- Laws of whole runs.
-use Rattle.std.proofs.Common.{◌≡◌, ◌⊎◌, ℕ, ◌<◌, ◌≤◌, List, [], ◌∷◌, ◌++◌, Option, Some, None, Result, Ok, Err, arith, ap, sym, ◌∙◌, subst, inl, inr, refl, nat_eq, if◌then◌else◌}
-use Rattle.std.proofs.lemmas.Grind.{common_steps}
-use Rattle.bud_base.specs.Paths.{Meets}
+use Rattle.std.proofs.Common.{◌≡◌, ◌≢◌, ◌⊎◌, ℕ, ◌≤◌, List, Option, Some, None, Result, Ok, Err, arith, ap, sym, ◌∙◌, subst, inl, inr, refl, nat_eq, if◌then◌else◌}
 use Rattle.bud_shelf.specs.Outside.{Files, Rose, IsPutAnswer, IsAppended}
 use Rattle.bud_shelf.specs.declared.sinks.SinkFault.{SinkFault}
 use Rattle.bud_shelf.specs.declared.sinks.SinkFault.TheVariants.{Failed, NoMemory}
@@ -17,16 +15,19 @@ use Rattle.budget_steps.specs.declared.outcomes.Stop.TheVariants.{Refused as End
 use Rattle.budget_steps.specs.Outcomes.{Refusal, Outcome, said_of, writes_of}
 use Rattle.budget_steps.specs.Steps.{Follows}
 use Rattle.budget_steps.specs.Inputs.{Seen, unfaulted}
-use Rattle.budget_top.specs.Words.{Asked, raw, prove, least}
-use Rattle.budget_top.specs.Jobs.{course}
-use Rattle.budget_top.specs.Writing.{AreWritten, ArePartlyWritten, IsKept}
-use Rattle.budget_top.specs.Runs.{Came, Broke, IsSaid, IsEnd, kept_said, answered, IsPut, IsFinished, IsRun, Ends, Breaks, IsCalled, HasCauses, CallsFor, HasBudgets}
-use Rattle.budget_steps.proofs.Courses.{Within, SameEnd}
+use Rattle.budget_top.specs.Words.{Asked}
+use Rattle.budget_top.specs.Jobs.{course, output}
+use Rattle.budget_top.specs.Writing.{AreWritten, IsKept}
+use Rattle.budget_top.specs.Runs.{Broke, IsSaid, IsEnd, kept_said, answered, IsFinished, IsRun, Ends, Breaks, IsCalled, HasCauses, CallsFor, HasBudgets, KeepsOthers, LeavesFiles}
+use Rattle.budget_top.specs.BestBudgets.{HasBest}
+use Rattle.budget_steps.proofs.Courses.{Within, SameEnd, follows_within}
 use Rattle.budget_steps.proofs.FileLaws.{IsDuring, rose_since}
-use Rattle.budget_steps.proofs.JobLaws.{IsJob, SameStatus}
-use Rattle.budget_top.proofs.JobCourses.{job_is, job_quiet, IsDone, raw_alike}
+use Rattle.budget_steps.proofs.JobLaws.{SameStatus}
+use Rattle.budget_top.proofs.KeptFiles.{WritesTo, no_writes, same_kept, written_kept, partly_kept}
+use Rattle.budget_top.proofs.BestBudgets.{best_of}
+use Rattle.budget_top.proofs.JobCourses.{job_is, job_writes, job_met, IsDone}
 
--- ---- numbers of statuses
+-- ---- the numbers of statuses
 status_at : ℕ → Status
 status_at n =
     if nat_eq n 0 then Done
@@ -70,197 +71,145 @@ course_during : (asked : Option Asked) (inner outer : Seen (Option Files)) → I
 course_during None inner outer during r came = came
 course_during (Some asked) inner outer during r came = (job_is asked).during inner outer during r came
 
-run_kept : (asked : Option Asked) (f0 f1 f2 : Option Files) (b m n : ℕ) (answer : Answer) (said : Said) (kept : Result (Unit {0}) Stop) → f1 ≡ f0 → b ≤ m → m ≤ n
-    → course (record { old = f0; new = f1; before = b; now = m }) asked (Ok answer)
-    → IsKept (record { old = f1; new = f2; before = m; now = n }) answer.writes kept → said ≡ kept_said answer.said kept
-    → IsSaid asked (record { old = f0; new = f2; before = b; now = n }) said
-run_kept asked f0 f1 f2 b m n answer said (Ok _) same early late came keeps e =
-    let during : IsDuring (record { old = f0; new = f1; before = b; now = m }) (record { old = f0; new = f2; before = b; now = n }) = record { files = refl; before = omega arith; now = late } in
-    inl (
-      Ok answer,
-      (
-        record {
-          comes = course_during asked (record { old = f0; new = f1; before = b; now = m }) (record { old = f0; new = f2; before = b; now = n }) during (Ok answer) came;
-          written = subst (λ (f : Option Files). AreWritten f f2 answer.writes) same keeps;
-        },
-        e,
-      ),
-    )
-run_kept asked f0 f1 f2 b m n answer said (Err (Ended s)) same early late came keeps e =
-    let during : IsDuring (record { old = f0; new = f1; before = b; now = m }) (record { old = f0; new = f2; before = b; now = n }) = record { files = refl; before = omega arith; now = late } in
-    inr (
-    inl (
-      keeps.0,
-      (
-        record {
-          outcome = Ok answer;
-          comes = course_during asked (record { old = f0; new = f1; before = b; now = m }) (record { old = f0; new = f2; before = b; now = n }) during (Ok answer) came;
-          partly = subst (λ (f : Option Files). ArePartlyWritten f f2 answer.writes keeps.0) same keeps.1.0;
-        },
-        (rose_since b m n early keeps.1.1.0, e ∙ keeps.1.1.1),
-      ),
-    )
-    )
-run_kept asked f0 f1 f2 b m n answer said (Err Wanting) same early late came keeps e =
-    let during : IsDuring (record { old = f0; new = f1; before = b; now = m }) (record { old = f0; new = f2; before = b; now = n }) = record { files = refl; before = omega arith; now = late } in
-    inr (
-    inr (
-      inr (
-        keeps.0,
-        record {
-          outcome = Ok answer;
-          comes = course_during asked (record { old = f0; new = f1; before = b; now = m }) (record { old = f0; new = f2; before = b; now = n }) during (Ok answer) came;
-          partly = subst (λ (f : Option Files). ArePartlyWritten f f2 answer.writes keeps.0) same keeps.1;
-        },
-      ),
-      e,
-    )
-    )
+-- what is seen of a shelf from a later count on
+abbrev from_count : Seen (Option Files) → ℕ → Seen (Option Files)
+from_count shelf mid = record { old = shelf.old; new = shelf.new; before = mid; now = shelf.now }
 
-run_said : (asked : Option Asked) (f0 f1 f2 : Option Files) (b m n : ℕ) (ended : Result Answer Stop) (said : Said) → f1 ≡ f0 → b ≤ m → m ≤ n
-    → Follows (course (record { old = f0; new = f1; before = b; now = m }) asked) ended
-    → IsEnd ended (record { old = f1; new = f2; before = m; now = n }) said
-    → IsSaid asked (record { old = f0; new = f2; before = b; now = n }) said
-run_said asked f0 f1 f2 b m n (Ok answer) said same early late came end =
-    run_kept asked f0 f1 f2 b m n answer said end.0 same early late came end.1.0 end.1.1
-run_said asked f0 f1 f2 b m n (Err (Ended s)) said same early late came end =
-    let during : IsDuring (record { old = f0; new = f1; before = b; now = m }) (record { old = f0; new = f2; before = b; now = n }) = record { files = refl; before = omega arith; now = late } in
-    inl (
-      Err came.0,
-      (
-        record {
-          comes = course_during asked (record { old = f0; new = f1; before = b; now = m }) (record { old = f0; new = f2; before = b; now = n }) during (Err came.0) came.1.0;
-          written = end.0 ∙ same;
-        },
-        end.1 ∙ came.1.1,
-      ),
-    )
-run_said asked f0 f1 f2 b m n (Err Wanting) said same early late came end = inr (inr (inl (end.0 ∙ same), end.1))
+said_kept : (asked : Option Asked) (shelf : Seen (Option Files)) (mid : ℕ) (answer : Answer) (said : Said) (kept : Result (Unit {0}) Stop) → shelf.before ≤ mid
+    → course shelf asked (Ok answer) → IsKept (from_count shelf mid) answer.writes kept → said ≡ kept_said answer.said kept → IsSaid asked shelf said
+said_kept asked shelf mid answer said (Ok _) late came keeps e = inl (Ok answer, (record { comes = came; written = keeps }, e))
+said_kept asked shelf mid answer said (Err (Ended s)) late came keeps e =
+    let broke : Broke asked shelf keeps.0 = record { outcome = Ok answer; comes = came; partly = keeps.1.0 } in
+    inr (inl (keeps.0, (broke, (rose_since shelf.before mid shelf.now late keeps.1.1.0, e ∙ keeps.1.1.1))))
+said_kept asked shelf mid answer said (Err Wanting) late came keeps e = inr (inr (inr (keeps.0, record { outcome = Ok answer; comes = came; partly = keeps.1 }), e))
+
+said_at_end : (asked : Option Asked) (shelf : Seen (Option Files)) (mid : ℕ) (ended : Result Answer Stop) (said : Said) → shelf.before ≤ mid
+    → Follows (course shelf asked) ended → IsEnd ended (from_count shelf mid) said → IsSaid asked shelf said
+said_at_end asked shelf mid (Ok answer) said late came end = said_kept asked shelf mid answer said end.0 late came end.1.0 end.1.1
+said_at_end asked shelf mid (Err (Ended s)) said late came end = inl (Err came.0, (record { comes = came.1.0; written = end.0 }, end.1 ∙ came.1.1))
+said_at_end asked shelf mid (Err Wanting) said late came end = inr (inr (inl end.0, end.1))
 
 pub run_from : (asked : Option Asked) (f0 f1 f2 : Option Files) (b m n : ℕ) (ended : Result Answer Stop) (out : Seen (Option (List ℕ))) (number : ℕ) → f1 ≡ f0 → b ≤ m → m ≤ n
     → Follows (course (record { old = f0; new = f1; before = b; now = m }) asked) ended
     → IsFinished ended (record { old = f1; new = f2; before = m; now = n }) out number
     → IsRun asked (record { old = f0; new = f2; before = b; now = n }) out number
 run_from asked f0 f1 f2 b m n ended out number same early late came finished =
-    (finished.0, (run_said asked f0 f1 f2 b m n ended finished.0 same early late came finished.1.0, finished.1.1))
+    let inner : Seen (Option Files) = record { old = f0; new = f1; before = b; now = m } in
+    let shelf : Seen (Option Files) = record { old = f0; new = f2; before = b; now = n } in
+    let during : IsDuring inner shelf = record { files = refl; before = omega arith; now = late } in
+    let end = subst (λ (f : Option Files). IsEnd ended (record { old = f; new = f2; before = m; now = n }) finished.0) same finished.1.0 in
+    let follows = follows_within (course inner asked) (course shelf asked) ended (course_during asked inner shelf during) came in
+    (finished.0, (said_at_end asked shelf m ended finished.0 early follows end, finished.1.1))
 
--- ---- the causes of statuses
+-- ---- why a run has its number
+-- a run: what was asked, what was seen of the shelf and of the sink, and the number
+pub record Run : Type 0 where
+  pub asked : Option Asked
+  pub shelf : Seen (Option Files)
+  pub out : Seen (Option (List ℕ))
+  pub number : ℕ
+  pub is_run : IsRun asked shelf out number
+
 abbrev said_status : Said → Status
 said_status said = said.status
 
--- what a run says where its number is none of those that the outside gives
-ends_said : (asked : Option Asked) (shelf : Seen (Option Files)) (out : Seen (Option (List ℕ))) (said : Said) (status : Status) → said.status ≡ status
-    → (3 ≡ code_of status → ⊥) → (8 ≡ code_of status → ⊥) → IsAppended out.old out.new said.text → IsSaid asked shelf said → Ends asked shelf out status
-ends_said asked shelf out said status e not_fault not_memory put (inl (outcome, ended)) = (
-  outcome,
-  (
-    ended.0,
-    (
-      sym (ap said_status ended.1) ∙ e,
-      subst (λ (s : Said). IsAppended out.old out.new s.text) ended.1 put,
-    ),
-  ),
-)
-ends_said asked shelf out said status e not_fault not_memory put (inr (inl (name, broke))) =
-    absurd (not_fault (ap code_of (sym (ap said_status broke.1.1) ∙ e)))
-ends_said asked shelf out said status e not_fault not_memory put (inr (inr wanting)) =
-    absurd (not_memory (ap code_of (sym (ap said_status wanting.1) ∙ e)))
+-- the job ended with the status, and the sink took its text; or a file could not be written, or the sink failed; or memory was wanting
+abbrev Reason : Run → Status → Type 0
+Reason r status =
+    Ends r.asked r.shelf r.out status
+    ⊎ (((status ≡ Fault) × (Breaks r.asked r.shelf r.out ⊎ Rose r.out.before r.out.now)) ⊎ (status ≡ Memory))
 
-ends_put : (asked : Option Asked) (shelf : Seen (Option Files)) (out : Seen (Option (List ℕ))) (said : Said) (r : Result (Unit {0}) SinkFault) (number : ℕ) (status : Status)
-    → number ≡ code_of status → (3 ≡ code_of status → ⊥) → (8 ≡ code_of status → ⊥) → IsPutAnswer out.old out.new out.before out.now said.text r
-    → number ≡ answered said.status r → IsSaid asked shelf said → Ends asked shelf out status
-ends_put asked shelf out said (Ok _) number status e not_fault not_memory put e' is_said =
-    ends_said asked shelf out said status (one_code said.status status (sym e' ∙ e)) not_fault not_memory put is_said
-ends_put asked shelf out said (Err Failed) number status e not_fault not_memory put e' is_said = absurd (not_fault (sym e' ∙ e))
-ends_put asked shelf out said (Err NoMemory) number status e not_fault not_memory put e' is_said = absurd (not_memory (sym e' ∙ e))
+-- the number is that of a status for which there is a reason
+abbrev HasReason : Run → Type 0
+HasReason r = (status : Status) × ((r.number ≡ code_of status) × Reason r status)
 
-ends_of : (asked : Option Asked) (shelf : Seen (Option Files)) (out : Seen (Option (List ℕ))) (number : ℕ) → IsRun asked shelf out number
-    → (status : Status) → (3 ≡ code_of status → ⊥) → (8 ≡ code_of status → ⊥) → number ≡ code_of status → Ends asked shelf out status
-ends_of asked shelf out number run status not_fault not_memory e =
-    ends_put asked shelf out run.0 run.1.1.0 number status e not_fault not_memory run.1.1.1.0 run.1.1.1.1 run.1.0
+reason_said : (r : Run) (said : Said) → IsAppended r.out.old r.out.new said.text → IsSaid r.asked r.shelf said → Reason r said.status
+reason_said r said put (inl (outcome, ended)) =
+    inl (outcome, (ended.0, (sym (ap said_status ended.1), subst (λ (s : Said). IsAppended r.out.old r.out.new s.text) ended.1 put)))
+reason_said r said put (inr (inl (name, broke))) =
+    let line = subst (λ (s : Said). IsAppended r.out.old r.out.new s.text) broke.1.1 put in
+    inr (inl (ap said_status broke.1.1, inl (name, (broke.0, (broke.1.0, line)))))
+reason_said r said put (inr (inr wanting)) = inr (inr (ap said_status wanting.1))
 
-fault_said : (asked : Option Asked) (shelf : Seen (Option Files)) (out : Seen (Option (List ℕ))) (said : Said) → said.status ≡ Fault
-    → IsAppended out.old out.new said.text → IsSaid asked shelf said → Ends asked shelf out Fault ⊎ Breaks asked shelf out
-fault_said asked shelf out said e put (inl (outcome, ended)) =
-    inl (
-      outcome,
-      (
-        ended.0,
-        (
-          sym (ap said_status ended.1) ∙ e,
-          subst (λ (s : Said). IsAppended out.old out.new s.text) ended.1 put,
-        ),
-      ),
-    )
-fault_said asked shelf out said e put (inr (inl (name, broke))) =
-    inr (name, (broke.0, (broke.1.0, subst (λ (s : Said). IsAppended out.old out.new s.text) broke.1.1 put)))
-fault_said asked shelf out said e put (inr (inr wanting)) = let e' = ap said_status wanting.1 in absurd (cc)
+reason_put : (r : Run) (said : Said) (put : Result (Unit {0}) SinkFault) → IsPutAnswer r.out.old r.out.new r.out.before r.out.now said.text put
+    → r.number ≡ answered said.status put → IsSaid r.asked r.shelf said → HasReason r
+reason_put r said (Ok _) put e is_said = (said.status, (e, reason_said r said put is_said))
+reason_put r said (Err Failed) put e is_said = (Fault, (e, inr (inl (refl, inr put.1))))
+reason_put r said (Err NoMemory) put e is_said = (Memory, (e, inr (inr refl)))
 
-fault_put : (asked : Option Asked) (shelf : Seen (Option Files)) (out : Seen (Option (List ℕ))) (said : Said) (r : Result (Unit {0}) SinkFault) (number : ℕ) → number ≡ 3
-    → IsPutAnswer out.old out.new out.before out.now said.text r → number ≡ answered said.status r → IsSaid asked shelf said
-    → Rose out.before out.now ⊎ (Ends asked shelf out Fault ⊎ Breaks asked shelf out)
-fault_put asked shelf out said (Ok _) number e put e' is_said =
-    inr (fault_said asked shelf out said (one_code said.status Fault (sym e' ∙ e)) put is_said)
-fault_put asked shelf out said (Err Failed) number e put e' is_said = inl put.1
-fault_put asked shelf out said (Err NoMemory) number e put e' is_said = absurd (omega (arith, e, e'))
+reason_of : (r : Run) → HasReason r
+reason_of r = let run = r.is_run in reason_put r run.0 run.1.1.0 run.1.1.1.0 run.1.1.1.1 run.1.0
+
+reason_at : (r : Run) (status : Status) → r.number ≡ code_of status → Reason r status
+reason_at r status e =
+    let reason = reason_of r in subst (λ (s : Status). Reason r s) (one_code reason.0 status (sym reason.1.0 ∙ e)) reason.1.1
+
+-- ---- the causes of statuses
+-- statuses that nothing but the end of a job has
+abbrev IsEnding : Status → Type 0
+IsEnding Fault = ⊥
+IsEnding Memory = ⊥
+IsEnding other = Unit {0}
+
+ends_at : (r : Run) (status : Status) → IsEnding status → r.number ≡ code_of status → Ends r.asked r.shelf r.out status
+ends_at r status ending e = elim (reason_at r status e) [
+  | inl ends ↦ ends
+  | inr other ↦ elim other [
+    | inl fault ↦ absurd (subst (λ (s : Status). IsEnding s) fault.0 ending)
+    | inr memory ↦ absurd (subst (λ (s : Status). IsEnding s) memory ending)
+  ]
+]
+
+fault_at : (r : Run) → Reason r Fault → Rose r.out.before r.out.now ⊎ (Ends r.asked r.shelf r.out Fault ⊎ Breaks r.asked r.shelf r.out)
+fault_at r (inl ends) = inr (inl ends)
+fault_at r (inr (inl (e, inl breaks))) = inr (inr breaks)
+fault_at r (inr (inl (e, inr rose))) = inl rose
+fault_at r (inr (inr e)) = absurd (cc)
 
 words_came : (asked : Option Asked) (shelf : Seen (Option Files)) (outcome : Outcome) → course shelf asked outcome → (said_of outcome).status ≡ Words → asked ≡ None
 words_came None shelf outcome came e = refl
 words_came (Some asked) shelf outcome came e = absurd ((job_is asked).fits shelf outcome came e)
 
-words_ends : (asked : Option Asked) (shelf : Seen (Option Files)) (out : Seen (Option (List ℕ))) → Ends asked shelf out Words → asked ≡ None
-words_ends asked shelf out ends = words_came asked shelf ends.0 ends.1.0.comes ends.1.1.0
-
-range_put : (status : Status) (r : Result (Unit {0}) SinkFault) → answered status r ≤ 8
-range_put status (Ok _) = code_most status
-range_put status (Err Failed) = omega arith
-range_put status (Err NoMemory) = omega arith
+words_end : (r : Run) → Ends r.asked r.shelf r.out Words → r.asked ≡ None
+words_end r ends = words_came r.asked r.shelf ends.0 ends.1.0.comes ends.1.1.0
 
 -- ---- the status that is called for
-called_said : (asked : Option Asked) (shelf : Seen (Option Files)) (out : Seen (Option (List ℕ))) (said : Said) (number : ℕ) (status : Status)
-    → ((outcome : Outcome) → course shelf asked outcome → ((said_of outcome).status ≡ status) ⊎ Rose shelf.before shelf.now)
-    → number ≡ code_of said.status → IsSaid asked shelf said → IsCalled shelf out status number
-called_said asked shelf out said number status follows e (inl (outcome, ended)) = elim (follows outcome ended.0.comes) [
-  | inl same ↦ inl (e ∙ ap code_of (ap said_status ended.1 ∙ same))
+-- the job comes to this status alone, unless the shelf's count rises
+abbrev ComesAs : Run → Status → Type 0
+ComesAs r status = (outcome : Outcome) → course r.shelf r.asked outcome → ((said_of outcome).status ≡ status) ⊎ Rose r.shelf.before r.shelf.now
+
+called_as : (r : Run) (status own : Status) → ComesAs r status → r.number ≡ code_of own → Reason r own → IsCalled r.shelf r.out status r.number
+called_as r status own comes e (inl (outcome, ends)) = elim (comes outcome ends.0.comes) [
+  | inl same ↦ inl (e ∙ ap code_of (sym ends.1.0 ∙ same))
   | inr rose ↦ inr (inr (inl rose))
 ]
-called_said asked shelf out said number status follows e (inr (inl (name, broke))) = inr (inr (inl broke.1.0))
-called_said asked shelf out said number status follows e (inr (inr wanting)) = inr (inl (e ∙ ap code_of (ap said_status wanting.1)))
+called_as r status own comes e (inr (inl (fault, inl (name, breaks)))) = inr (inr (inl breaks.1.0))
+called_as r status own comes e (inr (inl (fault, inr rose))) = inr (inr (inr rose))
+called_as r status own comes e (inr (inr memory)) = inr (inl (e ∙ ap code_of memory))
 
-called_put : (asked : Option Asked) (shelf : Seen (Option Files)) (out : Seen (Option (List ℕ))) (said : Said) (r : Result (Unit {0}) SinkFault) (number : ℕ) (status : Status)
-    → ((outcome : Outcome) → course shelf asked outcome → ((said_of outcome).status ≡ status) ⊎ Rose shelf.before shelf.now)
-    → IsPutAnswer out.old out.new out.before out.now said.text r → number ≡ answered said.status r → IsSaid asked shelf said → IsCalled shelf out status number
-called_put asked shelf out said (Ok _) number status follows put e is_said = called_said asked shelf out said number status follows e is_said
-called_put asked shelf out said (Err Failed) number status follows put e is_said = inr (inr (inr put.1))
-called_put asked shelf out said (Err NoMemory) number status follows put e is_said = inr (inl e)
-
-called_of : (asked : Option Asked) (shelf : Seen (Option Files)) (out : Seen (Option (List ℕ))) (number : ℕ) → IsRun asked shelf out number → (status : Status)
-    → ((outcome : Outcome) → course shelf asked outcome → ((said_of outcome).status ≡ status) ⊎ Rose shelf.before shelf.now) → IsCalled shelf out status number
-called_of asked shelf out number run status follows =
-    called_put asked shelf out run.0 run.1.1.0 number status follows run.1.1.1.0 run.1.1.1.1 run.1.0
+called_of : (r : Run) (status : Status) → ComesAs r status → IsCalled r.shelf r.out status r.number
+called_of r status comes = let reason = reason_of r in called_as r status reason.0 comes reason.1.0 reason.1.1
 
 misfit_status : (shelf : Seen (Option Files)) (outcome : Outcome) → course shelf None outcome → (said_of outcome).status ≡ Words
 misfit_status shelf (Ok answer) came = absurd came
 misfit_status shelf (Err r) came = ap (λ (x : Refusal). status_of x.cause) came
 
-run_misfit : (asked : Option Asked) (shelf : Seen (Option Files)) (out : Seen (Option (List ℕ))) (number : ℕ) → IsRun asked shelf out number → asked ≡ None
-    → IsCalled shelf out Words number
-run_misfit (Some asked) shelf out number run e = absurd (cc)
-run_misfit None shelf out number run e = called_of None shelf out number run Words (λ outcome came. inl (misfit_status shelf outcome came))
+run_misfit : (r : Run) → r.asked ≡ None → IsCalled r.shelf r.out Words r.number
+run_misfit r e =
+    called_of r Words (λ outcome came. inl (misfit_status r.shelf outcome (subst (λ (a : Option Asked). course r.shelf a outcome) e came)))
 
-pub run_causes : (asked : Option Asked) (shelf : Seen (Option Files)) (out : Seen (Option (List ℕ))) (number : ℕ) → IsRun asked shelf out number
-    → HasCauses asked shelf out number
-run_causes asked shelf out number run = record {
-  done = ends_of asked shelf out number run Done (λ e. absurd (omega (arith, e))) (λ e. absurd (omega (arith, e)));
-  violated = ends_of asked shelf out number run Violated (λ e. absurd (omega (arith, e))) (λ e. absurd (omega (arith, e)));
-  words = λ e. words_ends asked shelf out (ends_of asked shelf out number run Words (λ x. absurd (omega (arith, x))) (λ x. absurd (omega (arith, x))) e);
-  misfit = run_misfit asked shelf out number run;
-  fault = λ e. fault_put asked shelf out run.0 run.1.1.0 number e run.1.1.1.0 run.1.1.1.1 run.1.0;
-  refused = ends_of asked shelf out number run Refused (λ e. absurd (omega (arith, e))) (λ e. absurd (omega (arith, e)));
-  design = ends_of asked shelf out number run Design (λ e. absurd (omega (arith, e))) (λ e. absurd (omega (arith, e)));
-  limit = ends_of asked shelf out number run Limit (λ e. absurd (omega (arith, e))) (λ e. absurd (omega (arith, e)));
-  certificate = ends_of asked shelf out number run Certificate (λ e. absurd (omega (arith, e))) (λ e. absurd (omega (arith, e)));
-  range = let most = range_put run.0.status run.1.1.0 in omega (arith, most, run.1.1.1.1);
+pub run_causes : (r : Run) → HasCauses r.asked r.shelf r.out r.number
+run_causes r = record {
+  done = ends_at r Done tt;
+  violated = ends_at r Violated tt;
+  words = λ e. words_end r (ends_at r Words tt e);
+  misfit = run_misfit r;
+  fault = λ e. fault_at r (reason_at r Fault e);
+  refused = ends_at r Refused tt;
+  design = ends_at r Design tt;
+  limit = ends_at r Limit tt;
+  certificate = ends_at r Certificate tt;
+  range = let reason = reason_of r in let most = code_most reason.0 in omega (arith, most, reason.1.0);
 }
 
 -- ---- told files have one status
@@ -270,11 +219,12 @@ same_status (Ok a) (Err s) same = absurd same
 same_status (Err r) (Ok b) same = absurd same
 same_status (Err r) (Err s) same = same
 
+abbrev told : Files → Option Files → ℕ → ℕ → Seen (Option Files)
+told files new before now = record { old = Some files; new = new; before = before; now = now }
+
 course_alike : (asked : Option Asked) (files : Files) (new : Option Files) (before now : ℕ) (o o' : Outcome)
-    → course (record { old = Some files; new = new; before = before; now = now }) asked o → course (unfaulted files) asked o'
-    → ((said_of o).status ≡ (said_of o').status) ⊎ Rose before now
-course_alike None files new before now o o' x y =
-    inl (misfit_status (record { old = Some files; new = new; before = before; now = now }) o x ∙ sym (misfit_status (unfaulted files) o' y))
+    → course (told files new before now) asked o → course (unfaulted files) asked o' → ((said_of o).status ≡ (said_of o').status) ⊎ Rose before now
+course_alike None files new before now o o' x y = inl (misfit_status (told files new before now) o x ∙ sym (misfit_status (unfaulted files) o' y))
 course_alike (Some asked) files new before now o o' x y = elim ((job_is asked).alike files new before now o o' x y) [
   | inl same ↦ inl (same_status o o' same)
   | inr rose ↦ inr rose
@@ -286,50 +236,61 @@ pub run_called : (asked : Option Asked) (old new : Option Files) (before now : �
     → (status : Status) → CallsFor asked old status → IsCalled (record { old = old; new = new; before = before; now = now }) out status number
 run_called asked None new before now out number run status called = absurd called
 run_called asked (Some files) new before now out number run status called =
-    called_of asked (record { old = Some files; new = new; before = before; now = now }) out number run status
+    called_of (record { asked = asked; shelf = told files new before now; out = out; number = number; is_run = run }) status
     (λ o came. elim (course_alike asked files new before now o called.0 came called.1.0) [ inl same ↦ inl (same ∙ called.1.1) | inr rose ↦ inr rose ])
 
 done_end : (o : Outcome) → SameEnd IsDone o (Ok tt) → (said_of o).status ≡ Done
 done_end (Ok a) same = same
 done_end (Err r) same = absurd same
 
--- a told problem that is sound and meets is budgeted
+-- where no path of told inputs is violated, budgets are found
 pub run_budgets : (asked : Option Asked) (old new : Option Files) (before now : ℕ) (out : Seen (Option (List ℕ))) (number : ℕ)
     → IsRun asked (record { old = old; new = new; before = before; now = now }) out number
     → HasBudgets asked old → IsCalled (record { old = old; new = new; before = before; now = now }) out Done number
-run_budgets None old new before now out number run held = absurd held
-run_budgets (Some (raw problem)) None new before now out number run held = absurd held
-run_budgets (Some (raw problem)) (Some files) new before now out number run held =
-    called_of (Some (raw problem)) (record { old = Some files; new = new; before = before; now = now }) out number run Done
-    (λ o came. elim (raw_alike problem files new before now o (Ok tt) came held) [ inl same ↦ inl (done_end o same) | inr rose ↦ inr rose ])
-run_budgets (Some (prove problem cert)) old new before now out number run held = absurd held
-run_budgets (Some (least netlist delays constraints)) old new before now out number run held = absurd held
+run_budgets None old new before now out number run met = absurd met
+run_budgets (Some asked) None new before now out number run met = absurd met
+run_budgets (Some asked) (Some files) new before now out number run met =
+    called_of (record { asked = Some asked; shelf = told files new before now; out = out; number = number; is_run = run }) Done
+    (λ o came. elim (job_met asked files new before now o (Ok tt) came met) [ inl same ↦ inl (done_end o same) | inr rose ↦ inr rose ])
 
--- ---- no job changes a file
-course_quiet : (asked : Option Asked) (shelf : Seen (Option Files)) (outcome : Outcome) → course shelf asked outcome → writes_of outcome ≡ []
-course_quiet None shelf (Ok answer) came = absurd came
-course_quiet None shelf (Err r) came = refl
-course_quiet (Some asked) shelf outcome came = job_quiet asked shelf outcome came
+-- ---- no file changes but the job's output
+course_writes : (asked : Option Asked) (shelf : Seen (Option Files)) (outcome : Outcome) → course shelf asked outcome
+    → WritesTo (output asked) (said_of outcome).status (writes_of outcome)
+course_writes None shelf (Ok answer) came = absurd came
+course_writes (Some asked) shelf (Ok answer) came = job_writes asked shelf answer came
+course_writes asked shelf (Err r) came = no_writes (output asked) (status_of r.cause)
 
-none_partly : (old new : Option Files) (writes : List Write) (name : List ℕ) → writes ≡ [] → ArePartlyWritten old new writes name → ⊥
-none_partly old new writes name e partly = none_split partly.first partly.next partly.others (sym e ∙ partly.in_order)
-  where
-    none_split : (first : List Write) (next : Write) (others : List Write) → [] ≡ first ++ next ∷ others → ⊥
-    none_split [] next others e = cc
-    none_split (x ∷ xs) next others e = cc
+files_broke : (asked : Option Asked) (shelf : Seen (Option Files)) (name : List ℕ) → Broke asked shelf name → KeepsOthers (output asked) shelf.old shelf.new
+files_broke asked shelf name broke =
+    partly_kept (output asked) shelf.old shelf.new (writes_of broke.outcome) name (course_writes asked shelf broke.outcome broke.comes).named broke.partly
 
-none_broke : (asked : Option Asked) (shelf : Seen (Option Files)) (name : List ℕ) → Broke asked shelf name → ⊥
-none_broke asked shelf name broke =
-    none_partly shelf.old shelf.new (writes_of broke.outcome) name (course_quiet asked shelf broke.outcome broke.comes) broke.partly
-
-files_said : (asked : Option Asked) (shelf : Seen (Option Files)) (said : Said) → IsSaid asked shelf said → shelf.new ≡ shelf.old
+files_said : (asked : Option Asked) (shelf : Seen (Option Files)) (said : Said) → IsSaid asked shelf said → KeepsOthers (output asked) shelf.old shelf.new
 files_said asked shelf said (inl (outcome, ended)) =
-    subst (λ (writes : List Write). AreWritten shelf.old shelf.new writes) (course_quiet asked shelf outcome ended.0.comes) ended.0.written
-files_said asked shelf said (inr (inl (name, broke))) = absurd (none_broke asked shelf name broke.0)
+    written_kept (output asked) shelf.old shelf.new (writes_of outcome) (course_writes asked shelf outcome ended.0.comes).named ended.0.written
+files_said asked shelf said (inr (inl (name, broke))) = files_broke asked shelf name broke.0
 files_said asked shelf said (inr (inr wanting)) = elim wanting.0 [
-  | inl same ↦ same
-  | inr broke ↦ absurd (none_broke asked shelf broke.0 broke.1)
+  | inl same ↦ same_kept (output asked) shelf.old shelf.new same
+  | inr broke ↦ files_broke asked shelf broke.0 broke.1
 ]
 
-pub run_files : (asked : Option Asked) (shelf : Seen (Option Files)) (out : Seen (Option (List ℕ))) (number : ℕ) → IsRun asked shelf out number → shelf.new ≡ shelf.old
-run_files asked shelf out number run = files_said asked shelf run.0 run.1.0
+pub run_files : (r : Run) → KeepsOthers (output r.asked) r.shelf.old r.shelf.new
+run_files r = files_said r.asked r.shelf r.is_run.0 r.is_run.1.0
+
+-- none changes where the job isn't done, no file is left unwritten and memory isn't wanting
+reason_same : (r : Run) (status : Status) → Reason r status → (status ≡ Done → ⊥) → (status ≡ Fault → ⊥) → (status ≡ Memory → ⊥) → r.shelf.new ≡ r.shelf.old
+reason_same r status (inl (outcome, ends)) not_done not_fault not_memory =
+    let none = (course_writes r.asked r.shelf outcome ends.0.comes).done (λ e. not_done (sym ends.1.0 ∙ e)) in
+    subst (λ (ws : List Write). AreWritten r.shelf.old r.shelf.new ws) none ends.0.written
+reason_same r status (inr (inl fault)) not_done not_fault not_memory = absurd (not_fault fault.0)
+reason_same r status (inr (inr memory)) not_done not_fault not_memory = absurd (not_memory memory)
+
+pub run_unchanged : (r : Run) → LeavesFiles r.number → r.shelf.new ≡ r.shelf.old
+run_unchanged r leaves =
+    let reason = reason_of r in
+    let differs : (status : Status) → (r.number ≢ code_of status) → reason.0 ≡ status → ⊥ = λ status apart e. apart (reason.1.0 ∙ ap code_of e) in
+    reason_same r reason.0 reason.1.1 (differs Done leaves.0) (differs Fault leaves.1) (differs Memory leaves.2)
+
+-- ---- status 0 of the jobs with budgets
+pub run_best : (r : Run) → r.number ≡ 0 → HasBest r.asked r.shelf
+run_best r e =
+    let ends = ends_at r Done tt e in best_of r.asked r.shelf ends.0 ends.1.0.comes ends.1.0.written ends.1.1.0

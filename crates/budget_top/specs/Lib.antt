@@ -4,3 +4,4 @@ pub mod Words
 pub mod Jobs
 pub mod Writing
 pub mod Runs
+pub mod BestBudgets

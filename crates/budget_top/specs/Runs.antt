@@ -1,10 +1,7 @@
 -- A whole run: the words, the job's outcome, the files that it writes, and the sink.
-use Rattle.std.specs.Prelude.{◌≡◌, ◌⊎◌, ℕ, ◌≤◌, List, Option, Some, None, Result, Ok, Err}
+use Rattle.std.specs.Prelude.{◌≡◌, ◌≢◌, ◌⊎◌, ℕ, ◌≤◌, List, Option, Some, None, Result, Ok, Err}
 use Rattle.std.specs.declared.alloc.AllocError.{AllocError}
-use Rattle.bud_base.specs.Paths.{Meets}
-use Rattle.bud_base.specs.Soundness.{IsSound}
-use Rattle.bud_base.specs.declared.problems.Problem.{Problem}
-use Rattle.bud_shelf.specs.Outside.{Files, Rose, IsPutAnswer, IsAppended}
+use Rattle.bud_shelf.specs.Outside.{Files, Rose, OthersStay, IsPutAnswer, IsAppended}
 use Rattle.bud_shelf.specs.declared.sinks.SinkFault.{SinkFault}
 use Rattle.bud_shelf.specs.declared.sinks.SinkFault.TheVariants.{Failed, NoMemory}
 use Rattle.budget_report.specs.declared.statuses.Status.{Status}
@@ -15,10 +12,9 @@ use Rattle.budget_steps.specs.declared.outcomes.Answer.{Answer}
 use Rattle.budget_steps.specs.declared.outcomes.Stop.{Stop}
 use Rattle.budget_steps.specs.declared.outcomes.Stop.TheVariants.{Refused as Ended, NoMemory as Wanting}
 use Rattle.budget_steps.specs.Outcomes.{Outcome, said_of, writes_of, memory_said}
-use Rattle.budget_steps.specs.Inputs.{Seen, input, unfaulted}
-use Rattle.budget_top.specs.RawFiles.{problems}
-use Rattle.budget_top.specs.Words.{Asked, raw, prove, least}
-use Rattle.budget_top.specs.Jobs.{course}
+use Rattle.budget_steps.specs.Inputs.{Seen, unfaulted}
+use Rattle.budget_top.specs.Words.{Asked}
+use Rattle.budget_top.specs.Jobs.{course, met_by}
 use Rattle.budget_top.specs.Writing.{AreWritten, ArePartlyWritten, unwritten, IsKept}
 
 -- the job came to this outcome, and its files are written
@@ -110,10 +106,17 @@ abbrev pub CallsFor : Option Asked → Option Files → Status → Type 0
 CallsFor job (Some files) status = (outcome : Outcome) × (course (unfaulted files) job outcome × ((said_of outcome).status ≡ status))
 CallsFor job None status = ⊥
 
--- a shelf that tells its files holds the problem of `raw`, and it is sound and meets at least delays
+-- a shelf that tells its files holds the inputs of a job that finds budgets; they are accepted, and no path is violated at least delays
 abbrev pub HasBudgets : Option Asked → Option Files → Type 0
-HasBudgets (Some (raw problem)) (Some files) = (p : Problem) × (input (unfaulted files) problems problem (Ok p) × (IsSound p × Meets p))
-HasBudgets (Some (raw problem)) None = ⊥
-HasBudgets (Some (prove problem cert)) files = ⊥
-HasBudgets (Some (least netlist delays constraints)) files = ⊥
+HasBudgets (Some asked) (Some files) = met_by (unfaulted files) asked (Ok tt)
+HasBudgets (Some asked) None = ⊥
 HasBudgets None files = ⊥
+
+-- no file changes but the job's output
+abbrev pub KeepsOthers : Option (List ℕ) → Option Files → Option Files → Type 0
+KeepsOthers None old new = new ≡ old
+KeepsOthers (Some name) old new = OthersStay old new name
+
+-- the numbers where no file changes: all but those of a job that is done, of a fault and of want of memory
+abbrev pub LeavesFiles : ℕ → Type 0
+LeavesFiles number = (number ≢ 0) × (number ≢ 3) × (number ≢ 8)

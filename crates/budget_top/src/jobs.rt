@@ -3,13 +3,14 @@ ghost use Rattle.std.specs.Prelude.{◌≡◌, ◌≤◌};
 ghost use Rattle.budget_steps.specs.Inputs.{seen};
 ghost use Rattle.budget_top.specs.Jobs.{raw_job, prove_job, steps_of};
 ghost use Rattle.budget_steps.specs.Steps.{Follows};
-ghost use Rattle.budget_top.specs.Words.{asked};
+ghost use Rattle.budget_top.specs.Words.{asked, names_in, plan, check};
 
 use crate::problems::{measured, sound, verdict};
-use crate::raw_files::{CertText, ProblemText};
-use crate::words::Job;
+use crate::raw_files::ProblemText;
+use crate::words::{Job, PlanFiles};
 use bud_shelf::Shelf;
 use budget_designs::least;
+use budget_plans::{CertText, check, plan};
 use budget_steps::{Answer, Stop, load};
 use std::alloc::Global;
 
@@ -25,6 +26,8 @@ pub fn answer<S: Shelf>(alloc: Global, shelf: &mut S, job: Job<'_>) -> Result<An
         Job::Least(netlist, delays, constraints) => {
             least(alloc, shelf, netlist, delays, constraints)
         }
+        Job::Plan(files) => planned(alloc, shelf, files),
+        Job::Check(files) => checked(alloc, shelf, files),
     }
 }
 
@@ -49,4 +52,36 @@ fn prove<S: Shelf>(alloc: Global, shelf: &mut S, problem: &str, cert: &str) -> R
     let cert = load::<CertText, S>(alloc, shelf, cert)?;
     sound(alloc, &problem)?;
     verdict(alloc, &problem, &cert)
+}
+
+/// `plan V SDF SDC POLICY CERT`.
+fn planned<S: Shelf>(alloc: Global, shelf: &mut S, files: PlanFiles<'_>) -> Result<Answer, Stop>
+    ensures course { Follows (steps_of (seen S.files S.faults shelf.old shelf.new) (plan (names_in files.entry))) result }
+    ensures files { S.files shelf.new ≡ S.files shelf.old }
+    ensures later { S.faults shelf.old ≤ S.faults shelf.new }
+{
+    let PlanFiles {
+        netlist,
+        delays,
+        constraints,
+        policy,
+        cert,
+    } = files;
+    plan(alloc, shelf, netlist, delays, constraints, policy, cert)
+}
+
+/// `check V SDF SDC POLICY CERT`.
+fn checked<S: Shelf>(alloc: Global, shelf: &mut S, files: PlanFiles<'_>) -> Result<Answer, Stop>
+    ensures course { Follows (steps_of (seen S.files S.faults shelf.old shelf.new) (check (names_in files.entry))) result }
+    ensures files { S.files shelf.new ≡ S.files shelf.old }
+    ensures later { S.faults shelf.old ≤ S.faults shelf.new }
+{
+    let PlanFiles {
+        netlist,
+        delays,
+        constraints,
+        policy,
+        cert,
+    } = files;
+    check(alloc, shelf, netlist, delays, constraints, policy, cert)
 }

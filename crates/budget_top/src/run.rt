@@ -2,10 +2,11 @@ ghost use Rattle.std.specs.Prelude.{◌≡◌, ◌≤◌, map, string_bytes};
 ghost use Rattle.budget_report.specs.declared.statuses.Status.{Status};
 ghost use Rattle.budget_report.specs.declared.statuses.Status.TheVariants.{Done};
 ghost use Rattle.budget_steps.specs.Inputs.{seen};
-ghost use Rattle.budget_top.specs.Jobs.{course};
+ghost use Rattle.budget_top.specs.Jobs.{course, output};
 ghost use Rattle.budget_steps.specs.Steps.{Follows};
+ghost use Rattle.budget_top.specs.BestBudgets.{HasBest};
 ghost use Rattle.budget_top.specs.Words.{job_of};
-ghost use Rattle.budget_top.specs.Runs.{IsRun, HasCauses, CallsFor, HasBudgets, IsCalled};
+ghost use Rattle.budget_top.specs.Runs.{IsRun, HasCauses, CallsFor, HasBudgets, IsCalled, KeepsOthers, LeavesFiles};
 
 use crate::finish::finish;
 use crate::jobs::answer;
@@ -27,7 +28,11 @@ pub fn run_budget<S: Shelf, K: Sink>(
 ) -> u8
     // The whole run: how the job ends, what it writes and prints, and what the sink makes of that.
     ensures run { IsRun (job_of (map string_bytes words.now)) (seen S.files S.faults shelf.old shelf.new) (seen K.taken K.faults out.old out.new) result }
-    ensures files { S.files shelf.new ≡ S.files shelf.old }
+    // No file changes but the one that the job writes.
+    ensures files { KeepsOthers (output (job_of (map string_bytes words.now))) (S.files shelf.old) (S.files shelf.new) }
+
+    // Nor does that one, where the job isn't done, no fault came and memory wasn't wanting.
+    ensures unchanged { LeavesFiles result → S.files shelf.new ≡ S.files shelf.old }
 
     // When each status comes.
     ensures causes { HasCauses (job_of (map string_bytes words.now)) (seen S.files S.faults shelf.old shelf.new) (seen K.taken K.faults out.old out.new) result }
@@ -35,8 +40,11 @@ pub fn run_budget<S: Shelf, K: Sink>(
     // A shelf that tells its files calls for one status, and no other comes unless memory is wanting or a count rises.
     ensures exact { (status : Status) → CallsFor (job_of (map string_bytes words.now)) (S.files shelf.old) status → IsCalled (seen S.files S.faults shelf.old shelf.new) (seen K.taken K.faults out.old out.new) status result }
 
-    // Wherever no path of a sound problem is violated, best budgets are found.
+    // Wherever the problem or the design is accepted and no path is violated, best budgets are found.
     ensures budgets { HasBudgets (job_of (map string_bytes words.now)) (S.files shelf.old) → IsCalled (seen S.files S.faults shelf.old shelf.new) (seen K.taken K.faults out.old out.new) Done result }
+
+    // And where `plan` or `check` is done, the last file holds a certificate of best budgets for the design that was read.
+    ensures best { result ≡ 0 → HasBest (job_of (map string_bytes words.now)) (seen S.files S.faults shelf.old shelf.new) }
 {
     run(alloc, words, shelf, out)
 }

@@ -148,6 +148,13 @@ fn words_and_missing_files_are_named(rt: HostRuntime) -> Result<(), Fail> {
         (["paint", "p"].as_slice(), 2, "words\n"),
         (["least", "v", "d"].as_slice(), 2, "words\n"),
         (["least", "v", "d", "c"].as_slice(), 3, "fault v\n"),
+        (["plan", "v", "d", "c", "p"].as_slice(), 2, "words\n"),
+        (["check", "v", "d", "c", "p"].as_slice(), 2, "words\n"),
+        (
+            ["check", "v", "d", "c", "p", "k", "k"].as_slice(),
+            2,
+            "words\n",
+        ),
     ] {
         let (answer, printed) = run(rt.alloc(), words, &mut shelf)?;
         assert_eq!(rt; answer, status);
@@ -267,6 +274,54 @@ fn least_reads_a_netlist_then_delays_then_constraints(rt: HostRuntime) -> Result
         let answer = run_budget(rt.alloc(), words.as_slice(), &mut shelf, &mut sink);
         assert_eq!(rt; answer, status);
         assert_eq!(rt; str::from_utf8(sink.bytes())?, text);
+    }
+    Ok(())
+}
+
+/// A shelf that fails at this call, with a design without paths, a policy and a certificate.
+fn pathless(alloc: Global, call: u64) -> Result<MemShelf, AllocError> {
+    let mut shelf = MemShelf::new(alloc);
+    shelf.add("v", b"module t (); endmodule")?;
+    shelf.add("d", b"(DELAYFILE (DIVIDER /))")?;
+    shelf.add("c", b"")?;
+    shelf.add("p", b"policy 1\n")?;
+    shelf.add("k", b"certificate 1\nweight 1\n")?;
+    shelf.fail_at(call)?;
+    Ok(shelf)
+}
+
+const PATHLESS: &str = "no paths
+classes 0
+nodes 0
+items 0
+weight 0
+rest 0
+unclocked 0
+left-out 0
+";
+
+#[test]
+fn plan_writes_and_check_reads_the_last_file(rt: HostRuntime) -> Result<(), Fail> {
+    for (word, call, status, text) in [
+        ("plan", 4, 3, "fault p\n"),
+        ("plan", 5, 3, "fault k\n"),
+        ("plan", 6, 0, PATHLESS),
+        ("check", 4, 3, "fault p\n"),
+        ("check", 5, 3, "fault k\n"),
+        ("check", 6, 7, "certificate weight 0 1\n"),
+    ] {
+        let mut shelf = pathless(rt.alloc(), call)?;
+        let mut sink = MemSink::new(rt.alloc());
+        let words = owned(rt.alloc(), &[word, "v", "d", "c", "p", "k"])?;
+        let answer = run_budget(rt.alloc(), words.as_slice(), &mut shelf, &mut sink);
+        assert_eq!(rt; answer, status);
+        assert_eq!(rt; str::from_utf8(sink.bytes())?, text);
+        if answer == 0 {
+            assert_eq!(rt;
+                shelf.file("k"),
+                Some(b"certificate 1\nweight 0\n".as_slice())
+            );
+        }
     }
     Ok(())
 }

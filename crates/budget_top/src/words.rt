@@ -1,5 +1,6 @@
 ghost use Rattle.std.specs.Prelude.{◌≡◌, Some, None, MatchOption, map, string_bytes};
-ghost use Rattle.budget_top.specs.Words.{job_of, raw_of, prove_of, least_of, asked};
+ghost use Rattle.std.specs.Option.{option_map};
+ghost use Rattle.budget_top.specs.Words.{job_of, raw_of, prove_of, least_of, plan_names, names_in, asked};
 
 /// What the words of the command line ask for.
 #[derive(Clone, Copy)]
@@ -10,6 +11,20 @@ pub enum Job<'a> {
     Prove(&'a str, &'a str),
     /// `least V SDF SDC`: the least slack of a design, or a worst violated path.
     Least(&'a str, &'a str, &'a str),
+    /// `plan V SDF SDC POLICY CERT`: best budgets of a design, with their certificate.
+    Plan(PlanFiles<'a>),
+    /// `check V SDF SDC POLICY CERT`: checks a certificate of a design.
+    Check(PlanFiles<'a>),
+}
+
+/// The names of the files of a design, its policy and its certificate.
+#[derive(Clone, Copy)]
+pub struct PlanFiles<'a> {
+    pub netlist: &'a str,
+    pub delays: &'a str,
+    pub constraints: &'a str,
+    pub policy: &'a str,
+    pub cert: &'a str,
 }
 
 /// The job of the words behind the program's name, where they fit one.
@@ -25,6 +40,12 @@ pub fn asked_job(words: &[String]) -> Option<Job<'_>>
         prove(names)
     } else if word.as_bytes() == b"least".as_slice() {
         least(names)
+    } else if word.as_bytes() == b"plan".as_slice() {
+        let files = plan_files(names)?;
+        Some(Job::Plan(files))
+    } else if word.as_bytes() == b"check".as_slice() {
+        let files = plan_files(names)?;
+        Some(Job::Check(files))
     } else {
         None
     }
@@ -57,6 +78,21 @@ fn least(names: &[String]) -> Option<Job<'_>>
             delays.as_str(),
             constraints.as_str(),
         )),
+        _ => None,
+    }
+}
+
+fn plan_files(names: &[String]) -> Option<PlanFiles<'_>>
+    ensures { option_map (λ files. names_in files) result ≡ plan_names (map string_bytes names.now) }
+{
+    match names {
+        [netlist, delays, constraints, policy, cert] => Some(PlanFiles {
+            netlist: netlist.as_str(),
+            delays: delays.as_str(),
+            constraints: constraints.as_str(),
+            policy: policy.as_str(),
+            cert: cert.as_str(),
+        }),
         _ => None,
     }
 }

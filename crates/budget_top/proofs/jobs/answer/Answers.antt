@@ -8,3 +8,9 @@ returns-in-Prove-clause-course g c = rw c.in-Prove.is c.prove.ensures.course
 
 pub returns-in-Least-clause-course : goal.returns-in-Least-clause-course
 returns-in-Least-clause-course g c = rw c.in-Least.is c.least.ensures.course
+
+pub returns-in-Plan-clause-course : goal.returns-in-Plan-clause-course
+returns-in-Plan-clause-course g c = rw c.in-Plan.is c.planned.ensures.course
+
+pub returns-in-Check-clause-course : goal.returns-in-Check-clause-course
+returns-in-Check-clause-course g c = rw c.in-Check.is c.checked.ensures.course

@@ -1,6 +1,7 @@
 use Rattle.std.proofs.Common.{Err, arith, refl}
 use Rattle.budget_steps.specs.Inputs.{seen, input}
-use Rattle.budget_top.specs.RawFiles.{problems, certificates}
+use Rattle.budget_plans.specs.Files.{certificates}
+use Rattle.budget_top.specs.RawFiles.{problems}
 use Rattle.budget_top.specs.Jobs.{prove_job}
 use Rattle.budget_top.specs.Problems.{sound, verdict}
 use Rattle.budget_steps.specs.Steps.{◌>>=◌, ◌>>◌}
