@@ -6,4 +6,5 @@ mod reader;
 #[cfg(test)]
 mod tests;
 
+pub use lines::policy_line;
 pub use reader::{one_value, read_policy};
