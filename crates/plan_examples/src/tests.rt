@@ -2,7 +2,7 @@
 use bud_shelf::SafeShelf;
 use budget_plans::{check, plan};
 use budget_report::Status;
-use budget_steps::{Said, Stop, Write};
+use budget_steps::{Answer, Said, Stop, Write};
 use std::alloc::{AllocError, Global};
 use std::process::Abort;
 use std::test::Fail;
@@ -118,17 +118,24 @@ struct Planned {
 fn run_plan(alloc: Global, texts: Texts<'_>) -> Result<Planned, Fail> {
     let mut shelf = shelf_of(alloc, texts)?;
     match plan(alloc, &mut shelf, "v", "d", "c", "p", "k") {
-        Ok(answer) => {
-            let cert = written(alloc, answer.writes.as_slice())?;
-            let said = answer.said;
-            Ok(Planned { said, cert })
-        }
-        Err(stop) => {
-            let cert = String::new(alloc);
-            let said = refused(stop)?;
-            Ok(Planned { said, cert })
-        }
+        Ok(answer) => answered(alloc, answer),
+        Err(stop) => stopped(alloc, stop),
     }
+}
+
+fn answered(alloc: Global, answer: Answer) -> Result<Planned, Fail> {
+    let cert = written(alloc, answer.writes.as_slice())?;
+    Ok(Planned {
+        said: answer.said,
+        cert,
+    })
+}
+
+fn stopped(alloc: Global, stop: Stop) -> Result<Planned, Fail> {
+    Ok(Planned {
+        said: refused(stop)?,
+        cert: String::new(alloc),
+    })
 }
 
 fn written(alloc: Global, writes: &[Write]) -> Result<String, Fail> {
@@ -169,6 +176,49 @@ fn compare(
     Ok(())
 }
 
+/// Compares what `plan` says, and gives the text that it writes.
+fn plan_says(
+    rt: &(impl Abort + AllocGlobal),
+    design: Texts<'_>,
+    status: Status,
+    text: &str,
+) -> Result<String, Fail> {
+    let planned = run_plan(rt.alloc(), design)?;
+    compare(rt, &planned.said, status, text)?;
+    Ok(planned.cert)
+}
+
+/// Compares what `plan` says of a design for which it writes nothing.
+fn plan_refuses(
+    rt: &(impl Abort + AllocGlobal),
+    design: Texts<'_>,
+    status: Status,
+    text: &str,
+) -> Result<(), Fail> {
+    let cert = plan_says(rt, design, status, text)?;
+    assert_eq!(rt; cert.as_str(), "");
+    Ok(())
+}
+
+/// Compares what `check` says of a certificate.
+fn check_says(
+    rt: &(impl Abort + AllocGlobal),
+    design: Texts<'_>,
+    cert: &str,
+    status: Status,
+    text: &str,
+) -> Result<(), Fail> {
+    let said = checked(rt.alloc(), design, cert)?;
+    compare(rt, &said, status, text)
+}
+
+/// Each of these texts stands in the certificate.
+fn has_lines(rt: &impl Abort, cert: &str, lines: &[&str]) {
+    for line in lines {
+        assert!(rt; cert.contains(*line));
+    }
+}
+
 /// The block's design under these commands and this policy.
 fn core<'a>(constraints: &'a str, policy: &'a str) -> Texts<'a> {
     Texts {
@@ -182,15 +232,12 @@ fn core<'a>(constraints: &'a str, policy: &'a str) -> Texts<'a> {
 #[test]
 fn a_design_has_best_budgets_and_a_certificate(rt: HostRuntime) -> Result<(), Fail> {
     let design = core(CORE_COMMANDS, CORE_POLICY);
-    let best = run_plan(rt.alloc(), design)?;
-    compare(&rt, &best.said, Status::Done, CORE_SUMMARY)?;
-    assert_eq!(rt; best.cert.as_str(), CORE_CERT);
-    let holds = checked(rt.alloc(), design, CORE_CERT)?;
-    compare(&rt, &holds, Status::Done, "holds 3900\n")?;
-    let clock = "create_clock -name C -period 2 [get_ports clk]";
-    let design = core(clock, CORE_POLICY);
-    let none = run_plan(rt.alloc(), design)?;
-    let text = "no paths
+    let cert = plan_says(&rt, design, Status::Done, CORE_SUMMARY)?;
+    assert_eq!(rt; cert.as_str(), CORE_CERT);
+    check_says(&rt, design, CORE_CERT, Status::Done, "holds 3900\n")
+}
+
+const EMPTY_SUMMARY: &str = "no paths
 classes 0
 nodes 0
 items 0
@@ -200,15 +247,31 @@ rest 0
 unclocked 0
 left-out 0
 ";
-    compare(&rt, &none.said, Status::Done, text)?;
-    assert_eq!(rt; none.cert.as_str(), "certificate 1\nweight 0\n");
-    let holds = checked(rt.alloc(), design, none.cert.as_str())?;
-    compare(&rt, &holds, Status::Done, "holds 0\n")
+
+#[test]
+fn a_design_without_paths_has_an_empty_certificate(rt: HostRuntime) -> Result<(), Fail> {
+    let clock = "create_clock -name C -period 2 [get_ports clk]";
+    let design = core(clock, CORE_POLICY);
+    let cert = plan_says(&rt, design, Status::Done, EMPTY_SUMMARY)?;
+    let empty = "certificate 1\nweight 0\n";
+    assert_eq!(rt; cert.as_str(), empty);
+    check_says(&rt, design, empty, Status::Done, "holds 0\n")
+}
+
+/// Compares what `check` says of the design's certificate with another text in a line's place.
+fn fault_is(
+    rt: &(impl Abort + AllocGlobal),
+    line: &str,
+    other: &str,
+    text: &str,
+) -> Result<(), Fail> {
+    let cert = CORE_CERT.replace(rt.alloc(), line, other)?;
+    let design = core(CORE_COMMANDS, CORE_POLICY);
+    check_says(rt, design, cert.as_str(), Status::Certificate, text)
 }
 
 #[test]
 fn the_first_fault_of_a_certificate_is_named(rt: HostRuntime) -> Result<(), Fail> {
-    let design = core(CORE_COMMANDS, CORE_POLICY);
     for (line, other, text) in [
         (
             "item u/b1/A u/b1/Z 0 1100 1",
@@ -238,19 +301,17 @@ fn the_first_fault_of_a_certificate_is_named(rt: HostRuntime) -> Result<(), Fail
         ),
         ("weight 3900", "weight 39", "certificate weight 3900 39\n"),
     ] {
-        let cert = CORE_CERT.replace(rt.alloc(), line, other)?;
-        let said = checked(rt.alloc(), design, cert.as_str())?;
-        compare(&rt, &said, Status::Certificate, text)?;
+        fault_is(&rt, line, other, text)?;
     }
+    Ok(())
+}
+
+#[test]
+fn budgets_above_the_bounds_of_a_policy_are_refused(rt: HostRuntime) -> Result<(), Fail> {
     let policy = CORE_POLICY.replace(rt.alloc(), "arc g/A g/Z extra 900 weight 1\n", "")?;
-    let tight = core(CORE_COMMANDS, policy.as_str());
-    let said = checked(rt.alloc(), tight, CORE_CERT)?;
-    compare(
-        &rt,
-        &said,
-        Status::Certificate,
-        "certificate bounds g/A g/Z 0\n",
-    )
+    let design = core(CORE_COMMANDS, policy.as_str());
+    let text = "certificate bounds g/A g/Z 0\n";
+    check_says(&rt, design, CORE_CERT, Status::Certificate, text)
 }
 
 /// Least delays as budgets, with the arrivals of the best ones and no flow.
@@ -290,13 +351,20 @@ weight 820
 #[test]
 fn budgets_without_a_flow_are_not_best(rt: HostRuntime) -> Result<(), Fail> {
     let design = core(CORE_COMMANDS, CORE_POLICY);
-    let said = checked(rt.alloc(), design, LEAST_CERT)?;
-    compare(
-        &rt,
-        &said,
-        Status::Certificate,
-        "certificate weight 820 8520\n",
-    )
+    let text = "certificate weight 820 8520\n";
+    check_says(&rt, design, LEAST_CERT, Status::Certificate, text)
+}
+
+/// Compares what `plan` says under the policy with another text in a line's place.
+fn policy_is_refused(
+    rt: &(impl Abort + AllocGlobal),
+    line: &str,
+    other: &str,
+    text: &str,
+) -> Result<(), Fail> {
+    let policy = CORE_POLICY.replace(rt.alloc(), line, other)?;
+    let design = core(CORE_COMMANDS, policy.as_str());
+    plan_refuses(rt, design, Status::Design, text)
 }
 
 #[test]
@@ -310,21 +378,12 @@ fn lines_of_policies_are_refused(rt: HostRuntime) -> Result<(), Fail> {
         ("block u\n", "block w\n", "design unknown-instance w\n"),
         ("arc g/A g/Z", "arc g/A u/o", "design unknown-arc g/A u/o\n"),
     ] {
-        let policy = CORE_POLICY.replace(rt.alloc(), line, other)?;
-        let refused = run_plan(rt.alloc(), core(CORE_COMMANDS, policy.as_str()))?;
-        compare(&rt, &refused.said, Status::Design, text)?;
-        assert_eq!(rt; refused.cert.as_str(), "");
+        policy_is_refused(&rt, line, other, text)?;
     }
     Ok(())
 }
 
-#[test]
-fn classes_go_on_at_groups(rt: HostRuntime) -> Result<(), Fail> {
-    let commands = format!(in rt.alloc();
-        "{CORE_COMMANDS}set_max_delay 1 -through [get_pins g/Z]\n"
-    )?;
-    let through = run_plan(rt.alloc(), core(commands.as_str(), CORE_POLICY))?;
-    let text = "meets 230
+const THROUGH_SUMMARY: &str = "meets 230
 classes 2
 nodes 13
 items 11
@@ -334,17 +393,34 @@ rest 120
 unclocked 0
 left-out 0
 ";
-    compare(&rt, &through.said, Status::Done, text)?;
-    for lines in [
+
+#[test]
+fn classes_go_on_at_groups(rt: HostRuntime) -> Result<(), Fail> {
+    let commands = format!(in rt.alloc();
+        "{CORE_COMMANDS}set_max_delay 1 -through [get_pins g/Z]\n"
+    )?;
+    let design = core(commands.as_str(), CORE_POLICY);
+    let cert = plan_says(&rt, design, Status::Done, THROUGH_SUMMARY)?;
+    let lines = [
         "certificate 1\nclass 0 C rise 4:0\nclass 1 C rise 4:1\nnode in 0 400\n",
         "\nitem g/A g/Z 0 120 ",
         "\nitem u/b1/A u/b1/Z 1 430 ",
         "\nweight 2230\n",
-    ] {
-        assert!(rt; through.cert.as_str().contains(lines));
-    }
+    ];
+    has_lines(&rt, cert.as_str(), &lines);
     Ok(())
 }
+
+const LATE: &str = "violated -50
+class 0 C rise
+start u/r1/CK 0 0
+arc u/r1/CK u/r1/Q 250
+arc u/r1/Q u/b2/A 0
+arc u/b2/A u/b2/Z 1300
+arc u/b2/Z u/o 0
+arc u/o out 0
+end out 0 1500
+";
 
 #[test]
 fn no_certificate_is_written_where_a_path_is_violated(rt: HostRuntime) -> Result<(), Fail> {
@@ -355,26 +431,9 @@ fn no_certificate_is_written_where_a_path_is_violated(rt: HostRuntime) -> Result
         constraints: CORE_COMMANDS,
         policy: CORE_POLICY,
     };
-    let late = run_plan(rt.alloc(), design)?;
-    let text = "violated -50
-class 0 C rise
-start u/r1/CK 0 0
-arc u/r1/CK u/r1/Q 250
-arc u/r1/Q u/b2/A 0
-arc u/b2/A u/b2/Z 1300
-arc u/b2/Z u/o 0
-arc u/o out 0
-end out 0 1500
-";
-    compare(&rt, &late.said, Status::Violated, text)?;
-    assert_eq!(rt; late.cert.as_str(), "");
-    let said = checked(rt.alloc(), design, CORE_CERT)?;
-    compare(
-        &rt,
-        &said,
-        Status::Certificate,
-        "certificate bounds u/b2/A u/b2/Z 0\n",
-    )
+    plan_refuses(&rt, design, Status::Violated, LATE)?;
+    let text = "certificate bounds u/b2/A u/b2/Z 0\n";
+    check_says(&rt, design, CORE_CERT, Status::Certificate, text)
 }
 
 /// Two blocks, each with a register, under two clocks.
@@ -424,6 +483,21 @@ fn pair(policy: &str) -> Texts<'_> {
     }
 }
 
+/// A line of a policy that counts for one clock, whose name follows.
+const CLOCK_LINE: &str = "arc x2/a x2/s/D extra 9000 weight 5 clock";
+
+const PAIR_SUMMARY: &str = "meets 3900
+classes 2
+nodes 19
+items 16
+weight 34200
+block x1 20100
+block x2 6600
+rest 7500
+unclocked 0
+left-out 0
+";
+
 const CLOCKED_SUMMARY: &str = "meets 3900
 classes 2
 nodes 19
@@ -437,45 +511,44 @@ left-out 0
 ";
 
 #[test]
+fn paths_of_two_clocks_share_their_slack(rt: HostRuntime) -> Result<(), Fail> {
+    let policy = format!(in rt.alloc(); "policy 1\n{PAIR_LINES}")?;
+    plan_says(&rt, pair(policy.as_str()), Status::Done, PAIR_SUMMARY)?;
+    Ok(())
+}
+
+#[test]
 fn lines_of_policies_count_for_one_clock(rt: HostRuntime) -> Result<(), Fail> {
-    let first = format!(in rt.alloc(); "policy 1\n{PAIR_LINES}")?;
-    let all = run_plan(rt.alloc(), pair(first.as_str()))?;
-    let text = "meets 3900
-classes 2
-nodes 19
-items 16
-weight 34200
-block x1 20100
-block x2 6600
-rest 7500
-unclocked 0
-left-out 0
-";
-    compare(&rt, &all.said, Status::Done, text)?;
-    let line = "arc x2/a x2/s/D extra 9000 weight 5 clock";
-    let second = format!(in rt.alloc(); "policy 2\n{PAIR_LINES}{line} C2\n")?;
-    let one = run_plan(rt.alloc(), pair(second.as_str()))?;
-    compare(&rt, &one.said, Status::Done, CLOCKED_SUMMARY)?;
-    for lines in [
+    let policy = format!(in rt.alloc(); "policy 2\n{PAIR_LINES}{CLOCK_LINE} C2\n")?;
+    let cert = plan_says(&rt, pair(policy.as_str()), Status::Done, CLOCKED_SUMMARY)?;
+    let lines = [
         "certificate 2\npolicy 2\nclass 0 C1 rise\nclass 1 C2 rise\n",
         "\nitem x1/g/B x1/g/Z 1 400 ",
         "\nitem x2/a x2/s/D 1 4000 ",
         "\nweight 44200\n",
-    ] {
-        assert!(rt; one.cert.as_str().contains(lines));
-    }
-    let said = checked(rt.alloc(), pair(first.as_str()), one.cert.as_str())?;
-    compare(&rt, &said, Status::Certificate, "certificate version 1 2\n")?;
-    let unknown = format!(in rt.alloc(); "policy 2\n{PAIR_LINES}{line} C9\n")?;
-    let unknown = run_plan(rt.alloc(), pair(unknown.as_str()))?;
-    compare(
-        &rt,
-        &unknown.said,
-        Status::Design,
-        "design unknown-clock C9\n",
-    )?;
-    let early = format!(in rt.alloc(); "policy 1\n{PAIR_LINES}{line} C2\n")?;
-    let early = run_plan(rt.alloc(), pair(early.as_str()))?;
+    ];
+    has_lines(&rt, cert.as_str(), &lines);
+    of_another_version(&rt, cert.as_str())
+}
+
+/// The pair's certificate is of another version than this policy.
+fn of_another_version(rt: &(impl Abort + AllocGlobal), cert: &str) -> Result<(), Fail> {
+    let policy = format!(in rt.alloc(); "policy 1\n{PAIR_LINES}")?;
+    let text = "certificate version 1 2\n";
+    check_says(rt, pair(policy.as_str()), cert, Status::Certificate, text)
+}
+
+#[test]
+fn a_clock_of_a_policy_is_one_of_the_design(rt: HostRuntime) -> Result<(), Fail> {
+    let policy = format!(in rt.alloc(); "policy 2\n{PAIR_LINES}{CLOCK_LINE} C9\n")?;
+    let text = "design unknown-clock C9\n";
+    plan_refuses(&rt, pair(policy.as_str()), Status::Design, text)
+}
+
+#[test]
+fn a_policy_of_the_first_version_names_no_clock(rt: HostRuntime) -> Result<(), Fail> {
+    let policy = format!(in rt.alloc(); "policy 1\n{PAIR_LINES}{CLOCK_LINE} C2\n")?;
+    let early = run_plan(rt.alloc(), pair(policy.as_str()))?;
     assert_eq!(rt; early.said.status, Status::Refused);
     Ok(())
 }
