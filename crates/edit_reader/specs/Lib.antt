@@ -1,0 +1,4 @@
+pub mod Numbered
+pub mod Lines
+pub mod Scripts
+pub mod Reading
