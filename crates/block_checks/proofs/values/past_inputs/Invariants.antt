@@ -1,0 +1,8 @@
+use Rattle.std.proofs.Common.{◌≡◌, drop, find, flat_map, not}
+use Rattle.block_theory.specs.BlockValues.{input_values, is_within_limit}
+use Rattle.block_checks.proofs.values.past_inputs.Given as goal
+
+abbrev pub invariant-loop-node : goal.invariant-loop-node
+invariant-loop-node l =
+    find (λ z. not (is_within_limit z)) (flat_map (input_values l.extremes.early.items l.extremes.late.items) l.nodes)
+    ≡ find (λ z. not (is_within_limit z)) (flat_map (input_values l.extremes.early.items l.extremes.late.items) (drop l.node-index l.nodes))
