@@ -14,7 +14,7 @@ use Rattle.budget_steps.specs.declared.outcomes.Write.{Write}
 use Rattle.budget_steps.specs.Outcomes.{Outcome, said_of, writes_of}
 use Rattle.budget_steps.specs.Inputs.{Seen}
 use Rattle.budget_plans.specs.Plans.{IsPlanAnswer, IsPlanned}
-use Rattle.budget_top.specs.Words.{Asked, raw, prove, least, plan, check}
+use Rattle.budget_top.specs.Words.{Asked, raw, prove, least, plan, check, make}
 use Rattle.budget_top.specs.Jobs.{course}
 use Rattle.budget_top.specs.Writing.{AreWritten}
 use Rattle.budget_top.specs.BestBudgets.{IsLeft, HasBest}
@@ -60,6 +60,7 @@ best_of None shelf outcome came written e = tt
 best_of (Some (raw problem)) shelf outcome came written e = tt
 best_of (Some (prove problem cert)) shelf outcome came written e = tt
 best_of (Some (least netlist delays constraints)) shelf outcome came written e = tt
+best_of (Some (make gates number)) shelf outcome came written e = tt
 best_of (Some (plan names)) shelf (Err r) came written e = absurd (never_done r.cause e)
 best_of (Some (plan names)) shelf (Ok answer) came written e =
     let P : Status → Type 0 = λ s. IsPlanAnswer came.0 names.cert s answer.said.text answer.writes in

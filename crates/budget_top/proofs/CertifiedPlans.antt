@@ -1,5 +1,5 @@
 -- The certificate of a plan that holds shows that its budgets are best.
-use Rattle.std.proofs.Common.{◌≡◌, sym, ◌∙◌, List, ℕ, Result, Ok, Err, IfOk}
+use Rattle.std.proofs.Common.{sym, ◌∙◌, List, ℕ, Result, Ok, Err, IfOk}
 use Rattle.std.specs.declared.alloc.AllocError.{AllocError}
 use Rattle.bud_base.specs.Soundness.{IsSound}
 use Rattle.bud_base.specs.declared.problems.Problem.{Problem}

@@ -1,5 +1,5 @@
 -- The jobs, each by its steps in order.
-use Rattle.std.proofs.Common.{◌≡◌, ℕ, List, [], Option, Some, None, Result, Ok, Err, ap, sym, ◌∙◌, subst, inl, inr, refl}
+use Rattle.std.proofs.Common.{◌≡◌, ℕ, List, [], Option, Some, None, Ok, Err, ap, sym, subst, inl, inr, refl}
 use Rattle.bud_base.specs.declared.problems.Problem.{Problem}
 use Rattle.bud_shelf.specs.Outside.{Files, Rose}
 use Rattle.cert_text.specs.declared.certs.Cert.{Cert}
@@ -19,10 +19,11 @@ use Rattle.budget_designs.proofs.JobLaws.{least_is, least_quiet}
 use Rattle.budget_plans.proofs.JobLaws.{plan_is, check_is, met_job}
 use Rattle.budget_plans.specs.Layouts.{Laid}
 use Rattle.budget_plans.specs.Plans.{IsPlanAnswer}
-use Rattle.budget_top.specs.Words.{Asked, raw, prove, least, plan, check}
+use Rattle.budget_top.specs.Words.{Asked, raw, prove, least, plan, check, make}
 use Rattle.budget_top.specs.Jobs.{raw_job, prove_job, steps_of, met, met_raw, met_by, output_of}
 use Rattle.budget_steps.proofs.Courses.{Alike, alike_then, alike_step}
 use Rattle.budget_steps.proofs.FileLaws.{input_alike}
+use Rattle.budget_makes.proofs.MakeLaws.{make_is, make_quiet, make_met}
 use Rattle.budget_plans.proofs.PolicyFiles.{certificates_are}
 use Rattle.budget_top.proofs.RawFileLaws.{problems_are}
 use Rattle.budget_top.proofs.Soundnesses.{soundness_sure, soundness_fits}
@@ -67,6 +68,7 @@ job_is (prove problem cert) = prove_is problem cert
 job_is (least netlist delays constraints) = least_is netlist delays constraints
 job_is (plan names) = plan_is names.netlist names.delays names.constraints names.policy names.cert
 job_is (check names) = check_is names.netlist names.delays names.constraints names.policy names.cert
+job_is (make gates number) = make_is gates number
 
 -- ---- the files that a job writes
 plan_writes : (l : Laid) (cert : List ℕ) (status : Status) (text : List ℕ) (writes : List Write) → IsPlanAnswer l cert status text writes → WritesTo (Some cert) status writes
@@ -85,6 +87,7 @@ job_writes (prove problem cert) shelf answer came = quiet answer (ap (λ (a : An
 job_writes (least netlist delays constraints) shelf answer came = quiet answer (least_quiet shelf netlist delays constraints answer came)
 job_writes (plan names) shelf answer came = plan_writes came.0 names.cert answer.said.status answer.said.text answer.writes came.1.1
 job_writes (check names) shelf answer came = quiet answer (ap (λ (a : Answer). a.writes) came.1.1.1.1.1.1.1.1.1)
+job_writes (make gates number) shelf answer came = quiet answer (make_quiet gates number answer came)
 
 -- ---- where no path is violated, budgets are found
 abbrev pub IsDone : Answer → Unit {0} → Type 0
@@ -114,3 +117,4 @@ job_met (prove problem cert) files new before now = λ r s x y. absurd y
 job_met (least netlist delays constraints) files new before now = λ r s x y. absurd y
 job_met (plan names) files new before now = met_job names.netlist names.delays names.constraints names.policy names.cert files new before now
 job_met (check names) files new before now = λ r s x y. absurd y
+job_met (make gates number) files new before now = make_met gates number (Rose before now)

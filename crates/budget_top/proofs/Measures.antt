@@ -1,5 +1,5 @@
 -- A sound problem meets at least delays, or some path of it is violated.
-use Rattle.std.proofs.Common.{◌≡◌, ℕ, pos, ◌≤ℤ◌, ◌<ℤ◌, List, Result, Ok, Err, arith, inl, inr, refl, sym, ◌∙◌}
+use Rattle.std.proofs.Common.{◌≡◌, ℕ, pos, ◌≤ℤ◌, ◌<ℤ◌, List, Ok, Err, arith, inl, inr, refl}
 use Rattle.std.proofs.lemmas.Int.{ints}
 use Rattle.bud_base.specs.Paths.{Path, IsPath, slack, least_of, Meets}
 use Rattle.bud_base.specs.declared.problems.Problem.{Problem}

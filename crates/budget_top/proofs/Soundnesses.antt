@@ -1,15 +1,13 @@
 -- A problem is sound, or has faults of one status.
 use Rattle.std.proofs.Common.{◌≡◌, ℕ, Err, refl}
 use Rattle.bud_base.specs.Soundness.{IsSound, IsCheckAnswer}
-use Rattle.bud_base.specs.Orders.{IsCycle}
 use Rattle.bud_base.specs.declared.problems.Problem.{Problem}
 use Rattle.bud_base.specs.declared.checks.ProblemFault.{ProblemFault}
 use Rattle.bud_base.specs.declared.checks.ProblemFault.TheVariants.{BadNode, BadBounds, BadTime, TooLarge, Cycle, Dead, NoMemory}
 use Rattle.bud_base.proofs.SoundLemmas.{IsInRange-from_sound}
 use Rattle.bud_base.proofs.CheckLemmas.{HasNoCycle-from_order}
 use Rattle.budget_report.specs.Causes.{problem_status, HasItems}
-use Rattle.budget_report.specs.declared.statuses.Status.{Status}
-use Rattle.budget_report.specs.declared.statuses.Status.TheVariants.{Words, Design, Limit}
+use Rattle.budget_report.specs.declared.statuses.Status.TheVariants.{Words, Limit}
 use Rattle.budget_report.specs.declared.causes.Cause.TheVariants.{Problem as Unsound}
 use Rattle.budget_report.proofs.JoinsWithin.{IsCycle-within}
 use Rattle.budget_steps.specs.Steps.{IsCause}

@@ -10,8 +10,6 @@ use Rattle.plan_cert.specs.declared.answers.CertFault.{CertFault}
 use Rattle.plan_cert.specs.declared.answers.CertFault.TheVariants.{Version, Shape, Bounds, Arrival, Start as LateStart, End as LateEnd, NegativeFlow, Balance, Weight}
 use Rattle.plan_cert.specs.declared.answers.CertPlace.{CertPlace}
 use Rattle.plan_cert.specs.declared.answers.CertPlace.TheVariants.{Class, Node, Item, Start, End, Count}
-use Rattle.budget_report.specs.declared.statuses.Status.{Status}
-use Rattle.budget_report.specs.declared.statuses.Status.TheVariants.{Words}
 use Rattle.budget_report.specs.declared.causes.Cause.TheVariants.{Cert as Uncertified}
 use Rattle.budget_report.specs.Certificates.{IsPlace, IsNamed, IsOf}
 use Rattle.budget_report.specs.Subjects.{raw}

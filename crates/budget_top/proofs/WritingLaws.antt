@@ -1,5 +1,5 @@
 -- Laws of writing files one after another.
-use Rattle.std.proofs.Common.{◌≡◌, ℕ, ◌+◌, ◌<◌, ◌≤◌, List, [], ◌∷◌, ◌++◌, drop, length, get_or, Option, Result, Err, string_bytes, ap, sym, ◌∙◌, subst, refl}
+use Rattle.std.proofs.Common.{◌≡◌, ℕ, ◌+◌, ◌<◌, ◌≤◌, List, [], ◌∷◌, drop, length, get_or, Option, Err, string_bytes, ap, sym, ◌∙◌, subst, refl}
 use Rattle.std.proofs.lemmas.List.{drop_more}
 use Rattle.bud_shelf.specs.Outside.{Files, IsWritten, OthersStay, IsWriteAnswer}
 use Rattle.bud_shelf.specs.declared.shelves.ShelfFault.{ShelfFault}

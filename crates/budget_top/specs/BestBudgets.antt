@@ -7,7 +7,7 @@ use Rattle.budget_steps.specs.Inputs.{Seen, input}
 use Rattle.budget_plans.specs.Files.{certificates}
 use Rattle.budget_plans.specs.Layouts.{Laid, layout}
 use Rattle.budget_plans.specs.Plans.{Certifies}
-use Rattle.budget_top.specs.Words.{Asked, PlanNames, raw, prove, least, plan, check}
+use Rattle.budget_top.specs.Words.{Asked, PlanNames, raw, prove, least, plan, check, make}
 
 -- the files hold a design and a policy, for which the certificate holds: its budgets suit all constrained paths, and are best
 pub record IsBestFor (names : PlanNames) (shelf : Seen (Option Files)) (cert : Cert) : Type 0 where
@@ -26,6 +26,7 @@ HasBest None shelf = Unit {0}
 HasBest (Some (raw problem)) shelf = Unit {0}
 HasBest (Some (prove problem cert)) shelf = Unit {0}
 HasBest (Some (least netlist delays constraints)) shelf = Unit {0}
+HasBest (Some (make gates number)) shelf = Unit {0}
 HasBest (Some (plan names)) shelf =
     (bytes : List ℕ) × ((cert : Cert) × (IsLeft shelf.old shelf.new names.cert bytes × (Reads bytes cert × IsBestFor names shelf cert)))
 HasBest (Some (check names)) shelf = (cert : Cert) × (input shelf certificates names.cert (Ok cert) × IsBestFor names shelf cert)

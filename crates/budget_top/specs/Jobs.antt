@@ -1,5 +1,5 @@
 -- The jobs, each as its steps in order.
-use Rattle.std.specs.Prelude.{◌≡◌, ℕ, List, Option, Some, None, Result, Ok, Err}
+use Rattle.std.specs.Prelude.{◌≡◌, ℕ, List, Option, Some, None, Ok, Err}
 use Rattle.bud_base.specs.Paths.{Meets}
 use Rattle.bud_base.specs.Soundness.{IsSound}
 use Rattle.bud_base.specs.declared.problems.Problem.{Problem}
@@ -16,7 +16,9 @@ use Rattle.budget_designs.specs.Jobs.{least_job}
 use Rattle.budget_plans.specs.Jobs.{plan_job, check_job}
 use Rattle.budget_plans.specs.Layouts.{layout}
 use Rattle.budget_plans.specs.Plans.{met as laid_met}
-use Rattle.budget_top.specs.Words.{Asked, PlanNames, raw, prove, least, plan, check}
+use Rattle.budget_makes.specs.Jobs.{make_job}
+use Rattle.budget_makes.specs.OwnFiles.{made_design, own_layout}
+use Rattle.budget_top.specs.Words.{Asked, PlanNames, raw, prove, least, plan, check, make}
 
 -- `raw P`
 abbrev pub raw_job : Seen (Option Files) → List ℕ → Course Answer
@@ -50,6 +52,12 @@ met_plan shelf names = do
   l ← layout shelf names.netlist names.delays names.constraints names.policy
   laid_met l
 
+-- the made design can be laid out, and no constrained path of it is violated
+abbrev pub met_make : ℕ → ℕ → Course (Unit {0})
+met_make gates number = do
+  l ← own_layout (made_design gates number)
+  laid_met l
+
 -- a job without budgets
 abbrev pub unbudgeted : Course (Unit {0})
 unbudgeted r = ⊥
@@ -65,6 +73,7 @@ steps_of shelf (prove problem cert) = prove_job shelf problem cert
 steps_of shelf (least netlist delays constraints) = least_job shelf netlist delays constraints
 steps_of shelf (plan names) = plan_job shelf names.netlist names.delays names.constraints names.policy names.cert
 steps_of shelf (check names) = check_job shelf names.netlist names.delays names.constraints names.policy names.cert
+steps_of shelf (make gates number) = make_job gates number
 
 abbrev pub course : Seen (Option Files) → Option Asked → Course Answer
 course shelf None = misfit
@@ -77,6 +86,7 @@ met_by shelf (prove problem cert) = unbudgeted
 met_by shelf (least netlist delays constraints) = unbudgeted
 met_by shelf (plan names) = met_plan shelf names
 met_by shelf (check names) = unbudgeted
+met_by shelf (make gates number) = met_make gates number
 
 -- the file that a job writes, where it writes one
 abbrev pub output_of : Asked → Option (List ℕ)
@@ -85,6 +95,7 @@ output_of (prove problem cert) = None
 output_of (least netlist delays constraints) = None
 output_of (plan names) = Some names.cert
 output_of (check names) = None
+output_of (make gates number) = None
 
 abbrev pub output : Option Asked → Option (List ℕ)
 output None = None

@@ -18,7 +18,6 @@ use Rattle.budget_report.specs.Subjects.{raw}
 use Rattle.budget_report.specs.Certificates.{holds_text}
 use Rattle.budget_report.specs.Violations.{meets_text, no_paths_text, violated_text}
 use Rattle.budget_steps.specs.declared.outcomes.Answer.{Answer}
-use Rattle.budget_steps.specs.declared.outcomes.Said.{Said}
 use Rattle.budget_steps.specs.Outcomes.{done}
 use Rattle.budget_steps.specs.Steps.{Course, step}
 

@@ -3,19 +3,21 @@ ghost use Rattle.std.specs.Prelude.{◌≡◌, ◌≤◌};
 ghost use Rattle.budget_steps.specs.Inputs.{seen};
 ghost use Rattle.budget_top.specs.Jobs.{raw_job, prove_job, steps_of};
 ghost use Rattle.budget_steps.specs.Steps.{Follows};
-ghost use Rattle.budget_top.specs.Words.{asked, names_in, plan, check};
+ghost use Rattle.budget_top.specs.Words.{asked, names_in, plan, check, IsAskable};
 
 use crate::problems::{measured, sound, verdict};
 use crate::raw_files::ProblemText;
 use crate::words::{Job, PlanFiles};
 use bud_shelf::Shelf;
 use budget_designs::least;
+use budget_makes::make;
 use budget_plans::{CertText, check, plan};
 use budget_steps::{Answer, Stop, load};
 use std::alloc::Global;
 
 /// Does a job.
 pub fn answer<S: Shelf>(alloc: Global, shelf: &mut S, job: Job<'_>) -> Result<Answer, Stop>
+    requires { IsAskable job }
     ensures course { Follows (steps_of (seen S.files S.faults shelf.old shelf.new) (asked job.entry)) result }
     ensures files { S.files shelf.new ≡ S.files shelf.old }
     ensures later { S.faults shelf.old ≤ S.faults shelf.new }
@@ -28,6 +30,7 @@ pub fn answer<S: Shelf>(alloc: Global, shelf: &mut S, job: Job<'_>) -> Result<An
         }
         Job::Plan(files) => planned(alloc, shelf, files),
         Job::Check(files) => checked(alloc, shelf, files),
+        Job::Make(gates, number) => make(alloc, gates, number),
     }
 }
 

@@ -1,6 +1,8 @@
-ghost use Rattle.std.specs.Prelude.{◌≡◌, Some, None, MatchOption, map, string_bytes};
+ghost use Rattle.std.specs.Prelude.{◌≡◌, Some, None, IfSome, MatchOption, map, string_bytes};
 ghost use Rattle.std.specs.Option.{option_map};
-ghost use Rattle.budget_top.specs.Words.{job_of, raw_of, prove_of, least_of, plan_names, names_in, asked};
+ghost use Rattle.budget_top.specs.Words.{job_of, raw_of, prove_of, least_of, plan_names, make_of, names_in, asked, IsAskable};
+
+use budget_makes::{gates_of, number_of};
 
 /// What the words of the command line ask for.
 #[derive(Clone, Copy)]
@@ -15,6 +17,8 @@ pub enum Job<'a> {
     Plan(PlanFiles<'a>),
     /// `check V SDF SDC POLICY CERT`: checks a certificate of a design.
     Check(PlanFiles<'a>),
+    /// `make GATES NUMBER`: budgets of a design of 1 to 20,000 gates, which is told by a number below 2^31.
+    Make(u32, u32),
 }
 
 /// The names of the files of a design, its policy and its certificate.
@@ -29,7 +33,8 @@ pub struct PlanFiles<'a> {
 
 /// The job of the words behind the program's name, where they fit one.
 pub fn asked_job(words: &[String]) -> Option<Job<'_>>
-    ensures { MatchOption result (job_of (map string_bytes words.now) ≡ None) (λ job. job_of (map string_bytes words.now) ≡ Some (asked job)) }
+    ensures job { MatchOption result (job_of (map string_bytes words.now) ≡ None) (λ job. job_of (map string_bytes words.now) ≡ Some (asked job)) }
+    ensures askable { IfSome result IsAskable }
 {
     let [word, names @ ..] = words else {
         return None;
@@ -46,13 +51,16 @@ pub fn asked_job(words: &[String]) -> Option<Job<'_>>
     } else if word.as_bytes() == b"check".as_slice() {
         let files = plan_files(names)?;
         Some(Job::Check(files))
+    } else if word.as_bytes() == b"make".as_slice() {
+        make(names)
     } else {
         None
     }
 }
 
 fn raw(names: &[String]) -> Option<Job<'_>>
-    ensures { MatchOption result (raw_of (map string_bytes names.now) ≡ None) (λ job. raw_of (map string_bytes names.now) ≡ Some (asked job)) }
+    ensures askable { IfSome result IsAskable }
+    ensures job { MatchOption result (raw_of (map string_bytes names.now) ≡ None) (λ job. raw_of (map string_bytes names.now) ≡ Some (asked job)) }
 {
     match names {
         [problem] => Some(Job::Raw(problem.as_str())),
@@ -61,7 +69,8 @@ fn raw(names: &[String]) -> Option<Job<'_>>
 }
 
 fn prove(names: &[String]) -> Option<Job<'_>>
-    ensures { MatchOption result (prove_of (map string_bytes names.now) ≡ None) (λ job. prove_of (map string_bytes names.now) ≡ Some (asked job)) }
+    ensures askable { IfSome result IsAskable }
+    ensures job { MatchOption result (prove_of (map string_bytes names.now) ≡ None) (λ job. prove_of (map string_bytes names.now) ≡ Some (asked job)) }
 {
     match names {
         [problem, cert] => Some(Job::Prove(problem.as_str(), cert.as_str())),
@@ -70,7 +79,8 @@ fn prove(names: &[String]) -> Option<Job<'_>>
 }
 
 fn least(names: &[String]) -> Option<Job<'_>>
-    ensures { MatchOption result (least_of (map string_bytes names.now) ≡ None) (λ job. least_of (map string_bytes names.now) ≡ Some (asked job)) }
+    ensures askable { IfSome result IsAskable }
+    ensures job { MatchOption result (least_of (map string_bytes names.now) ≡ None) (λ job. least_of (map string_bytes names.now) ≡ Some (asked job)) }
 {
     match names {
         [netlist, delays, constraints] => Some(Job::Least(
@@ -95,4 +105,16 @@ fn plan_files(names: &[String]) -> Option<PlanFiles<'_>>
         }),
         _ => None,
     }
+}
+
+fn make(names: &[String]) -> Option<Job<'_>>
+    ensures askable { IfSome result IsAskable }
+    ensures job { MatchOption result (make_of (map string_bytes names.now) ≡ None) (λ job. make_of (map string_bytes names.now) ≡ Some (asked job)) }
+{
+    let [gates, number] = names else {
+        return None;
+    };
+    let gates = gates_of(gates.as_str())?;
+    let number = number_of(number.as_str())?;
+    Some(Job::Make(gates, number))
 }

@@ -14,3 +14,6 @@ returns-in-Plan-clause-course g c = rw c.in-Plan.is c.planned.ensures.course
 
 pub returns-in-Check-clause-course : goal.returns-in-Check-clause-course
 returns-in-Check-clause-course g c = rw c.in-Check.is c.checked.ensures.course
+
+pub returns-in-Make-clause-course : goal.returns-in-Make-clause-course
+returns-in-Make-clause-course g c = rw c.in-Make.is c.make.ensures

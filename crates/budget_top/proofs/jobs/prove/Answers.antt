@@ -1,4 +1,4 @@
-use Rattle.std.proofs.Common.{Err, arith, refl}
+use Rattle.std.proofs.Common.{Err, arith}
 use Rattle.budget_steps.specs.Inputs.{seen, input}
 use Rattle.budget_plans.specs.Files.{certificates}
 use Rattle.budget_top.specs.RawFiles.{problems}
