@@ -1,4 +1,4 @@
-ghost use Rattle.std.specs.Prelude.{◌≤◌, None, IsOkUnless};
+ghost use Rattle.std.specs.Prelude.{◌≡◌, ◌≤◌, None, IsOkUnless, is_ok};
 ghost use Rattle.bud_shelf.specs.Outside.{IsPutAnswer};
 
 use bud_shelf::{Sink, SinkFault};
@@ -29,13 +29,24 @@ impl<R: Print> Sink for StdSink<'_, R> {
         // A refusal is always told as a failed call.
         ensures failed { IsOkUnless result SinkFault.Failed }
     {
-        match print(self.rt, bytes) {
+        match told(print(self.rt, bytes)) {
             Ok(()) => Ok(()),
-            Err(_) => {
+            Err(fault) => {
                 self.faults = self.faults.saturating_add(1);
-                Err(SinkFault::Failed)
+                Err(fault)
             }
         }
+    }
+}
+
+/// The sink's answer to what printing came to: Ok exactly where all was printed.
+fn told(printed: io::Result<()>) -> Result<(), SinkFault>
+    ensures printed { is_ok result ≡ is_ok printed }
+    ensures failed { IsOkUnless result SinkFault.Failed }
+{
+    match printed {
+        Ok(()) => Ok(()),
+        Err(_) => Err(SinkFault::Failed),
     }
 }
 

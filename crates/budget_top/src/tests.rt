@@ -326,6 +326,47 @@ fn plan_writes_and_check_reads_the_last_file(rt: HostRuntime) -> Result<(), Fail
     Ok(())
 }
 
+#[test]
+fn make_reads_its_words_and_no_file(rt: HostRuntime) -> Result<(), Fail> {
+    let summary = "gates 1
+registers 0
+meets 1012
+classes 1
+nodes 35
+items 33
+weight 9160
+";
+    for (gates, number, status, text) in [
+        ("1", "0", 0, summary),
+        ("0", "0", 2, "words\n"),
+        ("20001", "0", 2, "words\n"),
+        ("1", "2147483648", 2, "words\n"),
+        ("1", "-0", 2, "words\n"),
+    ] {
+        let mut shelf = MemShelf::new(rt.alloc());
+        shelf.fail_at(1)?;
+        let mut sink = MemSink::new(rt.alloc());
+        let words = owned(rt.alloc(), &["make", gates, number])?;
+        let answer = run_budget(rt.alloc(), words.as_slice(), &mut shelf, &mut sink);
+        assert_eq!(rt; answer, status);
+        assert_eq!(rt; str::from_utf8(sink.bytes())?, text);
+    }
+    Ok(())
+}
+
+#[test]
+fn make_budgets_many_gates(rt: HostRuntime) -> Result<(), Fail> {
+    let mut shelf = SafeShelf::new(rt.alloc());
+    let (answer, printed) = run(rt.alloc(), &["make", "2000", "7"], &mut shelf)?;
+    assert_eq!(rt; answer, 0);
+    assert!(rt;
+        printed
+            .as_str()
+            .starts_with("gates 2000\nregisters 252\nmeets ")
+    );
+    Ok(())
+}
+
 /// An answer that says `done` and writes the files `a` and `b`.
 fn written(alloc: Global) -> Result<Answer, Fail> {
     let mut answer = Answer::done(alloc, Text::from_vec(Vec::from_slice(alloc, b"done\n")?));
